@@ -1,0 +1,4 @@
+pub mod Header
+pub mod Line
+pub mod Stored
+pub mod Reads

@@ -1,0 +1,5 @@
+pub mod Numbers
+pub mod Array
+pub mod Cells
+pub mod LayoutParts
+pub mod Rules

@@ -1,0 +1,15 @@
+pub mod Padded
+pub mod Bounded
+pub mod Value
+pub mod Constraint
+pub mod Answer
+pub mod Text
+pub mod NameForm
+pub mod Json
+pub mod Form
+pub mod Window
+pub mod Words
+pub mod Status
+pub mod Ends
+pub mod Verdict
+pub mod Problem

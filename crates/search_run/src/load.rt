@@ -1,0 +1,141 @@
+//! Loads what a command works on from the shelf.
+ghost use Rattle.std.specs.Prelude.{◌≡◌, ◌<◌, ◌≤◌, ◌⊎◌, ◌^◌, IfOk, IfErr, OnOk, IsErrOf, ◌∷◌, []};
+ghost use Rattle.source_io.specs.Told.{Rose};
+ghost use Rattle.source_io.specs.Files.{file_of};
+ghost use Rattle.source_io.specs.Written.{appended, AppendsFront};
+ghost use Rattle.search_run.specs.Problem.{LoadsQuery, LoadsProblem, IsTold, IsOfReading};
+
+use crate::problem::Problem;
+use crate::query_form::{MOST_BYTES, read_query};
+use crate::{Ending, QueryFault, QueryRefusal, Window};
+use array_file::{CellsFault, HeaderFault, read_cells, read_header};
+use source_io::{ByteSource, OpenFault, Shelf, read_whole};
+use std::alloc::Global;
+
+/// Reads all bytes of a source.
+fn read_all<S: ByteSource>(alloc: Global, source: &mut S) -> Result<Vec<u8>, Ending>
+    ensures bytes { IfOk result (λ v. IsTold (S.bytes source.old) v.items) }
+    ensures kinds { IfErr result IsOfReading }
+    ensures cause { IsErrOf result Ending.ReadFault → Rose (S.faults source.old) (S.faults source.new) }
+    ensures faults { S.faults source.old ≤ S.faults source.new }
+{
+    let size = source.size();
+    let Ok(mut bytes) = vec![in alloc; 0; size as usize] else {
+        return Err(Ending::NoMemory);
+    };
+    if read_whole(source, 0, bytes.as_mut_slice()).is_err() {
+        return Err(Ending::ReadFault);
+    }
+    Ok(bytes)
+}
+
+/// The query that a source holds. A file that is too long is refused and not read.
+fn query_from<S: ByteSource>(alloc: Global, source: &mut S) -> Result<Window, Ending>
+    ensures query { LoadsQuery (S.bytes source.old) result }
+    ensures cause { IsErrOf result Ending.ReadFault → Rose (S.faults source.old) (S.faults source.new) }
+    ensures faults { S.faults source.old ≤ S.faults source.new }
+{
+    if source.size() > MOST_BYTES as u64 {
+        return Err(Ending::QueryRefused(QueryRefusal::NotBuilt));
+    }
+    let bytes = match read_all(alloc, source) {
+        Ok(bytes) => bytes,
+        Err(ending) => return Err(ending),
+    };
+    match read_query(alloc, bytes.as_slice()) {
+        Ok(window) => Ok(window),
+        Err(QueryFault::Refused(refusal)) => Err(Ending::QueryRefused(refusal)),
+        Err(QueryFault::NoMemory) => Err(Ending::NoMemory),
+    }
+}
+
+/// Opens a query file, reads its query and hands the file back.
+#[tactic(auto, using(source_io::proofs::Writing::front_whole, source_io::proofs::Writing::front_nothing, source_io::proofs::Counting::rose_added))]
+fn load_query<F: Shelf>(alloc: Global, name: &str, shelf: &mut F) -> Result<Window, Ending>
+    requires { F.lent shelf.old < 2 ^ 32 }
+    ensures query { LoadsQuery (file_of (F.holds shelf.old) name.now) result }
+    ensures cause { IsErrOf result Ending.ReadFault →
+        Rose (F.faults shelf.old) (F.faults shelf.new)
+        ⊎ Rose (F.source_faults shelf.old) (F.source_faults shelf.new) }
+    ensures faults { F.faults shelf.old ≤ F.faults shelf.new }
+    ensures source_faults { F.source_faults shelf.old ≤ F.source_faults shelf.new }
+    ensures all_opened { OnOk result (F.opened shelf.new ≡ appended (F.opened shelf.old) (name.now ∷ [])) }
+    ensures opened { AppendsFront (F.opened shelf.old) (name.now ∷ []) (F.opened shelf.new) }
+    ensures lent { F.lent shelf.new ≡ F.lent shelf.old }
+    ensures holds { F.holds shelf.new ≡ F.holds shelf.old }
+{
+    let mut file = match shelf.open(name) {
+        Ok(file) => file,
+        Err(OpenFault::Failed) => return Err(Ending::ReadFault),
+        Err(OpenFault::NoMemory) => return Err(Ending::NoMemory),
+    };
+    let query = query_from(alloc, &mut file);
+    shelf.close(file);
+    query
+}
+
+/// Loads the array that an open file holds, and the query of a named one: first the header of the array,
+/// then the query, then the cells.
+fn load_from<F: Shelf>(
+    alloc: Global,
+    array: &mut F::Source,
+    query: &str,
+    shelf: &mut F,
+) -> Result<Problem, Ending>
+    requires { F.lent shelf.old < 2 ^ 32 }
+    ensures problem { LoadsProblem (F.Source.bytes array.old) (file_of (F.holds shelf.old) query.now) result }
+    ensures cause { IsErrOf result Ending.ReadFault →
+        Rose (F.Source.faults array.old) (F.Source.faults array.new)
+        ⊎ Rose (F.faults shelf.old) (F.faults shelf.new)
+        ⊎ Rose (F.source_faults shelf.old) (F.source_faults shelf.new) }
+    ensures faults { F.faults shelf.old ≤ F.faults shelf.new }
+    ensures source_faults { F.source_faults shelf.old ≤ F.source_faults shelf.new }
+    ensures all_opened { OnOk result (F.opened shelf.new ≡ appended (F.opened shelf.old) (query.now ∷ [])) }
+    ensures opened { AppendsFront (F.opened shelf.old) (query.now ∷ []) (F.opened shelf.new) }
+    ensures lent { F.lent shelf.new ≡ F.lent shelf.old }
+    ensures holds { F.holds shelf.new ≡ F.holds shelf.old }
+{
+    let layout = match read_header(array) {
+        Ok(layout) => layout,
+        Err(HeaderFault::Refused(refusal)) => return Err(Ending::ArrayRefused(refusal)),
+        Err(HeaderFault::Read) => return Err(Ending::ReadFault),
+    };
+    let window = match load_query(alloc, query, shelf) {
+        Ok(window) => window,
+        Err(ending) => return Err(ending),
+    };
+    match read_cells(alloc, &layout, array) {
+        Ok(cells) => Ok(Problem { window, cells }),
+        Err(CellsFault::Read) => Err(Ending::ReadFault),
+        Err(CellsFault::NoMemory) => Err(Ending::NoMemory),
+    }
+}
+
+/// Opens an array file and a query file, loads what they hold and hands both back.
+pub fn load<F: Shelf>(
+    alloc: Global,
+    array: &str,
+    query: &str,
+    shelf: &mut F,
+) -> Result<Problem, Ending>
+    requires { F.lent shelf.old < 2 ^ 16 }
+    ensures problem { LoadsProblem
+        (file_of (F.holds shelf.old) array.now) (file_of (F.holds shelf.old) query.now) result }
+    ensures cause { IsErrOf result Ending.ReadFault →
+        Rose (F.faults shelf.old) (F.faults shelf.new)
+        ⊎ Rose (F.source_faults shelf.old) (F.source_faults shelf.new) }
+    ensures all_opened { OnOk result
+        (F.opened shelf.new ≡ appended (F.opened shelf.old) (array.now ∷ query.now ∷ [])) }
+    ensures opened { AppendsFront (F.opened shelf.old) (array.now ∷ query.now ∷ []) (F.opened shelf.new) }
+    ensures lent { F.lent shelf.new ≡ F.lent shelf.old }
+    ensures holds { F.holds shelf.new ≡ F.holds shelf.old }
+{
+    let mut source = match shelf.open(array) {
+        Ok(source) => source,
+        Err(OpenFault::Failed) => return Err(Ending::ReadFault),
+        Err(OpenFault::NoMemory) => return Err(Ending::NoMemory),
+    };
+    let problem = load_from(alloc, &mut source, query, shelf);
+    shelf.close(source);
+    problem
+}

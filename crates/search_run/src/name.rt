@@ -1,0 +1,49 @@
+//! The form of names.
+ghost use Rattle.std.specs.Prelude.{◌≡◌, ◌≤◌, length, true};
+ghost use Rattle.std.specs.List.{list_all};
+ghost use Rattle.search_run.specs.NameForm as form;
+
+use crate::Name;
+
+/// Whether a name may begin with a byte: an ASCII letter or an underscore.
+fn begins_name(b: u8) -> bool
+    ensures { result ≡ form.begins_name b }
+{
+    65 <= b && b <= 90 || 97 <= b && b <= 122 || b == b'_'
+}
+
+/// Whether a name may go on with a byte: one that it may begin with, or a digit.
+fn continues_name(b: u8) -> bool
+    ensures { result ≡ form.continues_name b }
+{
+    begins_name(b) || 48 <= b && b <= 57
+}
+
+/// Whether a name may go on with each of these bytes.
+fn all_continue(text: &[u8]) -> bool
+    ensures { result ≡ list_all form.continues_name text.now }
+{
+    text.iter().all(|b| continues_name(*b))
+}
+
+/// Whether these bytes have the form of a name: 1 to 32 letters, digits and underscores, no digit first.
+pub fn is_name(text: &[u8]) -> bool
+    ensures form { result ≡ form.is_name text.now }
+    ensures short { result ≡ true → length text.now ≤ 32 }
+{
+    1 <= text.len() && text.len() <= 32 && begins_name(text[0]) && all_continue(text)
+}
+
+/// The name with these bytes.
+pub fn name_of(text: &[u8]) -> Name
+    requires { length text.now ≤ 32 }
+    ensures { result ≡ form.name_of text.now }
+{
+    let mut bytes = [0; 32];
+    let len = text.len();
+    bytes[..len].copy_from_slice(text);
+    Name {
+        len: len as u8,
+        bytes,
+    }
+}

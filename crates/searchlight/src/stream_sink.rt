@@ -1,0 +1,91 @@
+//! Standard output and standard error as sinks.
+ghost use Rattle.std.specs.Prelude.{◌≡◌, ◌<◌, ◌≤◌, length, take, None, IfSome, IfNone, IfOk, OnErr};
+ghost use Rattle.std.specs.Io.KnownBytes.{Keeps, Appends};
+ghost use Rattle.source_io.specs.Told.{Rose};
+
+use crate::fault_count::one_more;
+use crate::tries::TRIES;
+use source_io::{Failed, Sink};
+use std::io::{ErrorKind, Write};
+
+/// A stream that bytes go to, as `rt.stdout()` or `rt.stderr()`. As a sink it tells nothing of what it took.
+/// The writer hands on what it takes at once, as those two do: a buffer would hide a fault.
+/// Source: own.
+#[derive(Drop)]
+pub struct StreamSink<W> {
+    /// What takes the bytes.
+    pub writer: W,
+    /// How many writes were not done. At its last value it stays.
+    pub faults: u64,
+}
+
+impl<W: Write> StreamSink<W> {
+    /// A sink with no faults.
+    pub fn new(writer: W) -> StreamSink<W>
+        ensures writer { result.writer ≡ writer }
+        ensures faults { result.faults ≡ 0 }
+    {
+        StreamSink { writer, faults: 0 }
+    }
+}
+
+impl<W: Write> Sink for StreamSink<W> {
+    ghost written = { λ _. None };
+
+    ghost faults = { λ s. s.faults };
+
+    fn write(&mut self, piece: &[u8]) -> Result<usize, Failed>
+        requires { 0 < length piece.now }
+        ensures count { IfOk result (λ n. (0 < n) × (n ≤ length piece.now)) }
+        ensures cause { OnErr result (Rose self.old.faults self.new.faults) }
+        ensures faults { self.old.faults ≤ self.new.faults }
+
+        // Where the writer tells its bytes, it took just those that the answer counts.
+        ensures taken { IfOk result (λ n. Appends (W.contents self.old.writer) (W.contents self.new.writer) (take n piece.now)) }
+        ensures kept { OnErr result (Keeps (W.contents self.old.writer) (W.contents self.new.writer)) }
+    {
+        match write_some(&mut self.writer, piece) {
+            Some(n) => Ok(n),
+            None => {
+                self.faults = one_more(self.faults);
+                Err(Failed)
+            }
+        }
+    }
+}
+
+/// One write, and how many bytes were taken; `None` where it was not done, and where no byte was taken.
+/// A write that a signal breaks off is tried again, `TRIES` times in all.
+fn write_some<W: Write>(writer: &mut W, piece: &[u8]) -> Option<usize>
+    ensures count { IfSome result (λ n. (0 < n) × (n ≤ length piece.now)) }
+    ensures taken { IfSome result (λ n. Appends (W.contents writer.old) (W.contents writer.new) (take n piece.now)) }
+    ensures kept { IfNone result (Keeps (W.contents writer.old) (W.contents writer.new)) }
+{
+    for _ in 0..TRIES {
+        match writer.write(piece) {
+            Ok(0) => return None,
+            Ok(n) => return Some(n),
+            Err(e) if e.kind() == ErrorKind::Interrupted => {}
+            Err(_) => return None,
+        }
+    }
+    None
+}
+
+#[cfg(test)]
+mod tests {
+    use super::*;
+    use std::test::Fail;
+
+    #[test]
+    fn counts_a_write_that_takes_nothing(rt: HostRuntime) -> Result<(), Fail> {
+        let mut room = [0; 3];
+        let mut sink = StreamSink::new(&mut room[..]);
+        assert_eq!(rt; sink.write(b"hello"), Ok(3));
+        assert_eq!(rt; sink.faults, 0);
+        assert_eq!(rt; sink.write(b"lo"), Err(Failed));
+        assert_eq!(rt; sink.faults, 1);
+        assert_eq!(rt; room, [b'h', b'e', b'l']);
+        Ok(())
+    }
+}

@@ -1,0 +1,27 @@
+//! The words of the command line.
+ghost use Rattle.std.specs.Prelude.{◌≡◌, drop};
+
+use search_run::Ending;
+use std::env;
+use std::io::ErrorKind;
+use std::rt::Env;
+
+/// The program's name and the words after it, in order. `Usage` where one of them is no UTF-8, so that
+/// no command reads it; `NoMemory` where there is no memory for them. Source: own.
+pub fn all_words<R: Env + AllocGlobal>(rt: &R) -> Result<Vec<String>, Ending> {
+    match env::args(rt) {
+        Ok(words) => words.collect(rt.alloc()).map_err(|_| Ending::NoMemory),
+        Err(e) if e.kind() == ErrorKind::OutOfMemory => Err(Ending::NoMemory),
+        Err(_) => Err(Ending::Usage),
+    }
+}
+
+/// The words after the first, which is the program's name; none where there is no first. Source: own.
+pub fn after_name(words: &[String]) -> &[String]
+    ensures { result.now ≡ drop 1 words.now }
+{
+    match words {
+        [_name, rest @ ..] => rest,
+        [] => words,
+    }
+}

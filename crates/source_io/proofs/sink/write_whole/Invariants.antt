@@ -1,0 +1,14 @@
+use Rattle.std.proofs.Common.{◌≡◌, ◌≤◌, ◌-◌, length, take}
+use Rattle.source_io.specs.Written.{appended}
+use Rattle.source_io.proofs.sink.write_whole.Given as goal
+
+abbrev pub invariant-loop-done : goal.invariant-loop-done
+invariant-loop-done g l =
+    record {
+      within : l.done ≤ length l.piece;
+      written : g.K.Sink.written l.sink ≡ appended (g.K.Sink.written l.fn.sink) (take l.done l.piece);
+      faults : g.K.Sink.faults l.fn.sink ≤ g.K.Sink.faults l.sink;
+    }
+
+abbrev pub decreases-loop-done : goal.decreases-loop-done
+decreases-loop-done g l = length l.piece - l.done

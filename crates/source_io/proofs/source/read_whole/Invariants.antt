@@ -1,0 +1,20 @@
+use Rattle.std.proofs.Common.{length, take, ◌-◌, ◌≡◌, ◌+◌, ◌≤◌}
+use Rattle.source_io.specs.Told.{Holds}
+use Rattle.source_io.proofs.Reading.{AsksBelow}
+use Rattle.source_io.proofs.source.read_whole.Given as goal
+
+abbrev pub invariant-loop-done : goal.invariant-loop-done
+invariant-loop-done g l =
+    let s = g.S.ByteSource in
+    record {
+      within : l.done ≤ length l.into;
+      held : Holds (s.bytes l.fn.src) l.at l.done (take l.done l.into);
+      faults : s.faults l.fn.src ≤ s.faults l.src;
+      asked : AsksBelow (s.asked l.fn.src) (s.asked l.src) l.at (l.at + l.done) (l.at + length l.fn.into);
+      bytes : s.bytes l.src ≡ s.bytes l.fn.src;
+      size : s.len l.src ≡ s.len l.fn.src;
+      name : s.opened_as l.src ≡ s.opened_as l.fn.src;
+    }
+
+abbrev pub decreases-loop-done : goal.decreases-loop-done
+decreases-loop-done g l = length l.initial.into - l.done

@@ -1,0 +1,26 @@
+-- Files by their names, where they are told.
+use Rattle.std.specs.Prelude.{ℕ, List, [], Option, IsSome, IfSome, unwrap_or, option_map, String, string_bytes, Vec}
+use Rattle.std.specs.Prelude.{map as mapped}
+use Rattle.std.specs.FinMap as map
+use Rattle.std.specs.Ordering.{nat_cmp}
+use Rattle.std.specs.Cmp.Lexicographic.{slice_cmp}
+
+-- finitely many names, and the bytes of each
+abbrev pub Files : Type 0
+Files = map.FinMap (slice_cmp nat_cmp) (List ℕ)
+
+-- the bytes of a name; none where no file has it
+abbrev pub bytes_at : Files → List ℕ → List ℕ
+bytes_at files name = unwrap_or (map.get files name) []
+
+-- the bytes of a name, where the files are told
+abbrev pub file_of : Option Files → List ℕ → Option (List ℕ)
+file_of told name = option_map (λ files. bytes_at files name) told
+
+-- a file has the name, where the files are told
+abbrev pub IsHeld : Option Files → List ℕ → Type 0
+IsHeld told name = IfSome told (λ files. IsSome (map.get files name))
+
+-- the files of a list of names and bytes; of those with one name the first
+abbrev pub files_of : {A B : Type 0} → List (String A × Vec ℕ B) → Files
+files_of list = map.from_entries (mapped (λ file. (string_bytes file.0, file.1.items)) list)

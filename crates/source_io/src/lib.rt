@@ -1,0 +1,27 @@
+//! The outside as traits: sources of bytes, sinks that take bytes, and a shelf of named files.
+//! What an object of the outside holds is told or not; that it failed shows in a count that never falls.
+//! Every proof above this crate rests on the clauses of these traits alone.
+//! In memory there are sources, sinks and a shelf that tell everything and fail by plan.
+//! Definitions: `specs/Told` (contents), `specs/Asked` (reads), `specs/Written` (writes), `specs/Files`,
+//! `specs/Plan` and `specs/MemSource` (in memory).
+#![tactic(auto)]
+
+pub mod fault;
+pub mod mem_shelf;
+pub mod mem_sink;
+pub mod mem_source;
+pub mod plan;
+pub mod shelf;
+pub mod sink;
+pub mod source;
+pub mod sure_source;
+
+pub use crate::fault::{Failed, NoMemory, OpenFault};
+pub use crate::mem_shelf::MemShelf;
+pub use crate::mem_sink::MemSink;
+pub use crate::mem_source::MemSource;
+pub use crate::plan::Plan;
+pub use crate::shelf::Shelf;
+pub use crate::sink::{Sink, write_whole};
+pub use crate::source::{ByteSource, read_whole};
+pub use crate::sure_source::SureSource;

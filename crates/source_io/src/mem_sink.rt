@@ -1,0 +1,107 @@
+//! A sink in memory.
+ghost use Rattle.std.specs.Prelude.{◌≡◌, ◌+◌, ◌≤◌, [], Some, IfOk, vec_len, vec_capacity};
+
+use crate::plan::portion;
+use crate::{Failed, NoMemory, Sink};
+use std::alloc::Global;
+
+/// A sink that keeps the bytes that it takes. It takes no memory when it writes. Source: own.
+#[derive(Drop)]
+pub struct MemSink {
+    bytes: Vec<u8>,
+    room: usize,
+    step: usize,
+    fails: Vec<u64>,
+    writes: u64,
+    faults: u64,
+    ghost reserved: { vec_len bytes + room ≤ vec_capacity bytes },
+}
+
+impl MemSink {
+    /// A sink that can hold `room` bytes. A write takes at most `step` bytes, where 0 means all, and no more
+    /// than there is room for. Writes are numbered from 1, also those that are not done. One whose number
+    /// stands in `fails` is not done, nor is one that finds no room left.
+    pub fn new(
+        alloc: Global,
+        room: usize,
+        step: usize,
+        fails: Vec<u64>,
+    ) -> Result<MemSink, NoMemory>
+        ensures empty { IfOk result (λ sink. ⟦<MemSink as Sink>⟧.written sink ≡ Some []) }
+        ensures no_faults { IfOk result (λ sink. ⟦<MemSink as Sink>⟧.faults sink ≡ 0) }
+    {
+        let Ok(bytes) = Vec::with_capacity(alloc, room) else {
+            return Err(NoMemory);
+        };
+        Ok(MemSink {
+            bytes,
+            room,
+            step,
+            fails,
+            writes: 0,
+            faults: 0,
+        })
+    }
+
+    /// The bytes that were written, in order.
+    pub fn as_bytes(&self) -> &[u8]
+        ensures { ⟦<MemSink as Sink>⟧.written self.now ≡ Some result.now }
+    {
+        self.bytes.as_slice()
+    }
+
+    /// How many writes were not done. The count ends at the greatest u64.
+    pub fn faults(&self) -> u64
+        ensures { result ≡ ⟦<MemSink as Sink>⟧.faults self.now }
+    {
+        self.faults
+    }
+}
+
+impl Sink for MemSink {
+    ghost written = { λ sink. Some sink.bytes.items };
+
+    ghost faults = { λ sink. sink.faults };
+
+    fn write(&mut self, piece: &[u8]) -> Result<usize, Failed> {
+        self.writes = self.writes.saturating_add(1);
+        let n = portion(self.step, piece.len()).min(self.room);
+        if n == 0 || self.fails.contains(&self.writes) {
+            self.faults = self.faults.saturating_add(1);
+            return Err(Failed);
+        }
+        self.bytes.extend_from_slice(&piece[..n]).unwrap();
+        self.room -= n;
+        Ok(n)
+    }
+}
+
+#[cfg(test)]
+mod tests {
+    use super::*;
+    use crate::write_whole;
+    use std::test::Fail;
+
+    #[test]
+    fn writes_in_steps_until_a_write_fails_or_no_room_is_left(rt: HostRuntime) -> Result<(), Fail> {
+        // The room, the step and the write that fails; whether `abc` was written whole, what was, and the faults.
+        let cases: [(usize, usize, u64, bool, &[u8], u64); 5] = [
+            (3, 0, 0, true, b"abc", 0),
+            (3, 1, 4, true, b"abc", 0),
+            (3, 1, 2, false, b"a", 1),
+            (2, 0, 0, false, b"ab", 1),
+            (0, 1, 0, false, b"", 1),
+        ];
+        for (room, step, fails, whole, written, faults) in cases {
+            let mut sink = MemSink::new(rt.alloc(), room, step, vec![in rt.alloc(); fails]?)?;
+            assert_eq!(rt;
+                write_whole(&mut sink, b"abc").is_ok(),
+                whole,
+                "room {room}, step {step}"
+            );
+            assert_eq!(rt; sink.as_bytes(), written, "room {room}, step {step}");
+            assert_eq!(rt; sink.faults(), faults, "room {room}, step {step}");
+        }
+        Ok(())
+    }
+}

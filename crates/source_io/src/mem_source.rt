@@ -1,0 +1,116 @@
+//! A source in memory.
+ghost use Rattle.std.specs.Prelude.{◌≡◌, ◌+◌, ◌≤◌, [], Some, IfOk, length, string_bytes, vec_len, vec_capacity};
+
+use crate::plan::portion;
+use crate::{ByteSource, Failed, NoMemory, Plan};
+use std::alloc::Global;
+
+/// A file that a shelf in memory lends. Source: own.
+///
+/// Its reads are numbered from 1, also those that are not done. One that the plan names is not done, nor
+/// is one for whose record there is no room. Those that are done are recorded, and no others. It takes no
+/// memory when it reads.
+#[derive(Drop)]
+pub struct MemSource {
+    name: String,
+    bytes: Vec<u8>,
+    asked: Vec<(u64, usize)>,
+    room: usize,
+    step: usize,
+    opening: u64,
+    fails: Vec<(u64, u64)>,
+    reads: u64,
+    faults: u64,
+    ghost reserved: { vec_len asked + room ≤ vec_capacity asked },
+}
+
+impl MemSource {
+    /// A source of these bytes, opened as `name` by the opening of this number, whose reads go by the plan.
+    pub(crate) fn new(
+        alloc: Global,
+        name: &str,
+        bytes: &[u8],
+        plan: &Plan,
+        opening: u64,
+    ) -> Result<MemSource, NoMemory>
+        ensures bytes { IfOk result (λ source. ⟦<MemSource as ByteSource>⟧.bytes source ≡ Some bytes.now) }
+        ensures name { IfOk result (λ source. ⟦<MemSource as ByteSource>⟧.opened_as source ≡ Some name.now) }
+        ensures nothing_asked { IfOk result (λ source. ⟦<MemSource as ByteSource>⟧.asked source ≡ Some []) }
+        ensures no_faults { IfOk result (λ source. ⟦<MemSource as ByteSource>⟧.faults source ≡ 0) }
+    {
+        let Ok(name) = String::from_str(alloc, name) else {
+            return Err(NoMemory);
+        };
+        let Ok(bytes) = Vec::from_slice(alloc, bytes) else {
+            return Err(NoMemory);
+        };
+        let Ok(fails) = Vec::from_slice(alloc, plan.reads.as_slice()) else {
+            return Err(NoMemory);
+        };
+        let Ok(asked) = Vec::with_capacity(alloc, plan.room) else {
+            return Err(NoMemory);
+        };
+        Ok(MemSource {
+            name,
+            bytes,
+            asked,
+            room: plan.room,
+            step: plan.step,
+            opening,
+            fails,
+            reads: 0,
+            faults: 0,
+        })
+    }
+
+    /// The name that it was opened as.
+    pub fn name(&self) -> &str
+        ensures { ⟦<MemSource as ByteSource>⟧.opened_as self.now ≡ Some result.now }
+    {
+        self.name.as_str()
+    }
+
+    /// The place and the length of each read that was done, in order.
+    pub fn asked(&self) -> &[(u64, usize)]
+        ensures { ⟦<MemSource as ByteSource>⟧.asked self.now ≡ Some result.now }
+    {
+        self.asked.as_slice()
+    }
+
+    /// How many reads were not done. The count ends at the greatest u64.
+    pub fn faults(&self) -> u64
+        ensures { result ≡ ⟦<MemSource as ByteSource>⟧.faults self.now }
+    {
+        self.faults
+    }
+}
+
+impl ByteSource for MemSource {
+    ghost bytes = { λ source. Some source.bytes.items };
+
+    ghost len = { λ source. length source.bytes.items };
+
+    ghost asked = { λ source. Some source.asked.items };
+
+    ghost opened_as = { λ source. Some (string_bytes source.name) };
+
+    ghost faults = { λ source. source.faults };
+
+    fn size(&self) -> u64 {
+        self.bytes.len() as u64
+    }
+
+    fn read_at(&mut self, at: u64, into: &mut [u8]) -> Result<usize, Failed> {
+        self.reads = self.reads.saturating_add(1);
+        if self.room == 0 || self.fails.contains(&(self.opening, self.reads)) {
+            self.faults = self.faults.saturating_add(1);
+            return Err(Failed);
+        }
+        self.asked.push_reserved((at, into.len()));
+        self.room -= 1;
+        let n = portion(self.step, into.len());
+        let from = at as usize;
+        into[..n].copy_from_slice(&self.bytes.as_slice()[from..from + n]);
+        Ok(n)
+    }
+}

@@ -1,0 +1,39 @@
+//! Sinks of bytes.
+ghost use Rattle.std.specs.Prelude.{◌≡◌, ℕ, ◌<◌, ◌≤◌, List, length, take, Option, IfOk, OnErr};
+ghost use Rattle.source_io.specs.Told.{Rose};
+ghost use Rattle.source_io.specs.Written.{appended, Writes};
+
+use crate::Failed;
+
+/// What takes bytes, as standard output or a created file. Source: own.
+pub trait Sink {
+    /// The bytes that it took, in order, where they are told.
+    ghost written: { Self → Option (List ℕ) };
+
+    /// How many writes were not done.
+    ghost faults: { Self → ℕ };
+
+    /// Takes the first bytes of the piece, one at least, and answers how many.
+    /// `Failed` where the write was not done, which the sink counts; it then took nothing.
+    fn write(&mut self, piece: &[u8]) -> Result<usize, Failed>
+        requires { 0 < length piece.now }
+        ensures count { IfOk result (λ n. (0 < n) × (n ≤ length piece.now)) }
+        ensures written { IfOk result (λ n. written self.new ≡ appended (written self.old) (take n piece.now)) }
+        ensures unchanged { OnErr result (written self.new ≡ written self.old) }
+        ensures cause { OnErr result (Rose (faults self.old) (faults self.new)) }
+        ensures faults { faults self.old ≤ faults self.new };
+}
+
+/// Writes the whole piece, by as many writes as it takes.
+/// `Failed` where one of them was not done; a front of the piece was then taken. An empty piece makes no write.
+pub fn write_whole<K: Sink>(sink: &mut K, piece: &[u8]) -> Result<(), Failed>
+    ensures written { Writes result piece.now (K.written sink.old) (K.written sink.new) }
+    ensures cause { OnErr result (Rose (K.faults sink.old) (K.faults sink.new)) }
+    ensures faults { K.faults sink.old ≤ K.faults sink.new }
+{
+    let mut done = 0;
+    while done < piece.len() {
+        done += sink.write(&piece[done..])?;
+    }
+    Ok(())
+}

@@ -1,0 +1,69 @@
+//! Sources of bytes.
+ghost use Rattle.std.specs.Prelude.{◌≡◌, ℕ, ◌+◌, ◌<◌, ◌≤◌, ◌⊎◌, List, length, Option, IfOk, OnOk, OnErr};
+ghost use Rattle.source_io.specs.Told.{Rose, Fills, Holds, SizeIs};
+ghost use Rattle.source_io.specs.Asked.{Asks, AsksOne};
+
+use crate::Failed;
+
+/// A file that is read at places of one's choice. Source: own.
+pub trait ByteSource {
+    /// Its bytes, where they are told.
+    ghost bytes: { Self → Option (List ℕ) };
+
+    /// How many bytes it has, told or not.
+    ghost len: { Self → ℕ };
+
+    /// The place and the length of each recorded read, in order, where they are told.
+    ghost asked: { Self → Option (List (ℕ × ℕ)) };
+
+    /// The name that it was opened as, where it is told.
+    ghost opened_as: { Self → Option (List ℕ) };
+
+    /// How many reads were not done.
+    ghost faults: { Self → ℕ };
+
+    /// The number of bytes. It never changes.
+    fn size(&self) -> u64
+        ensures size { result ≡ len self.now }
+        ensures told { SizeIs (bytes self.now) result };
+
+    /// Reads bytes from place `at` into the first places of `into`, one at least, and answers how many.
+    /// `Failed` where the read was not done, which the source counts; `into` is then unchanged.
+    fn read_at(&mut self, at: u64, into: &mut [u8]) -> Result<usize, Failed>
+        requires some { 0 < length into.old }
+        requires within { at + length into.old ≤ len self.old }
+        ensures count { IfOk result (λ n. (0 < n) × (n ≤ length into.old)) }
+        ensures bytes { IfOk result (λ n. Fills (bytes self.old) at n into.old into.new) }
+        ensures unchanged { OnErr result (into.new ≡ into.old) }
+        ensures cause { OnErr result (Rose (faults self.old) (faults self.new)) }
+        ensures faults { faults self.old ≤ faults self.new }
+
+        // A read that was done is recorded, and one that was not may be.
+        ensures asked { OnOk result (AsksOne (asked self.old) (asked self.new) (at, length into.old)) }
+        ensures failed { OnErr result (AsksOne (asked self.old) (asked self.new) (at, length into.old) ⊎ (asked self.new ≡ asked self.old)) }
+
+        // Reading changes nothing else.
+        ensures same_bytes { bytes self.new ≡ bytes self.old }
+        ensures same_len { len self.new ≡ len self.old }
+        ensures same_name { opened_as self.new ≡ opened_as self.old };
+}
+
+/// Fills the whole of `into` with the bytes from place `at`, by as many reads as it takes.
+/// `Failed` where one of them was not done. An empty `into` makes no read.
+pub fn read_whole<S: ByteSource>(src: &mut S, at: u64, into: &mut [u8]) -> Result<(), Failed>
+    requires { at + length into.old ≤ S.len src.old }
+    ensures bytes { OnOk result (Holds (S.bytes src.old) at (length into.old) into.new) }
+    ensures cause { OnErr result (Rose (S.faults src.old) (S.faults src.new)) }
+    ensures faults { S.faults src.old ≤ S.faults src.new }
+    ensures asked { Asks (S.asked src.old) (S.asked src.new) at (at + length into.old) }
+    ensures same_bytes { S.bytes src.new ≡ S.bytes src.old }
+    ensures same_len { S.len src.new ≡ S.len src.old }
+    ensures same_name { S.opened_as src.new ≡ S.opened_as src.old }
+{
+    let _size = src.size();
+    let mut done = 0;
+    while done < into.len() {
+        done += src.read_at(at + done as u64, &mut into[done..])?;
+    }
+    Ok(())
+}

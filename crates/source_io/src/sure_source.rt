@@ -1,0 +1,53 @@
+//! A source in memory whose reads never fail.
+ghost use Rattle.std.specs.Prelude.{◌≡◌, Some, None, length, IsOk};
+ghost use Rattle.source_io.specs.Told.{Fills};
+
+use crate::{ByteSource, Failed};
+
+/// Bytes in memory. It tells its bytes, fills each read whole, and its count of faults is the constant 0.
+#[derive(Drop)]
+pub struct SureSource {
+    /// What is read.
+    pub bytes: Vec<u8>,
+}
+
+impl ByteSource for SureSource {
+    ghost bytes = { λ s. Some s.bytes.items };
+
+    ghost len = { λ s. length s.bytes.items };
+
+    ghost asked = { λ _. None };
+
+    ghost opened_as = { λ _. None };
+
+    ghost faults = { λ _. 0 };
+
+    fn size(&self) -> u64 {
+        self.bytes.len() as u64
+    }
+
+    fn read_at(&mut self, at: u64, into: &mut [u8]) -> Result<usize, Failed> {
+        let from = at as usize;
+        let n = into.len();
+        into.copy_from_slice(&self.bytes.as_slice()[from..from + n]);
+        Ok(n)
+    }
+}
+
+#[cfg(test)]
+mod tests {
+    use super::*;
+    use crate::read_whole;
+    use std::test::Fail;
+
+    #[test]
+    fn reads_from_a_place(rt: HostRuntime) -> Result<(), Fail> {
+        let mut source = SureSource {
+            bytes: Vec::from_slice(rt.alloc(), b"hello")?,
+        };
+        let mut into = [0; 3];
+        assert!(rt; read_whole(&mut source, 1, &mut into).is_ok());
+        assert_eq!(rt; into, *b"ell");
+        Ok(())
+    }
+}
