@@ -30,6 +30,6 @@ pub enum LayoutRefusal {
     TooManyBlocks,
     /// The size is not that of the header and the chunks, in bytes.
     WrongLength { stated: u64, found: u64 },
-    /// The file keeps every rule, or breaks one, and is not of the form that is read so far.
+    /// The file breaks a rule, or is not of the form that is read so far.
     NotBuilt,
 }

@@ -15,6 +15,7 @@ fn fits(n: u32, s: &Side) -> bool
 }
 
 /// Whether a region, given by its side in each dimension, has a place and lies within an array of this shape.
+/// Source: own.
 pub fn is_proper(shape: &Shape, sides: &[Side; 3]) -> bool
     ensures { result ≡ array.is_proper shape.now.extents sides.now }
 {
@@ -23,7 +24,7 @@ pub fn is_proper(shape: &Shape, sides: &[Side; 3]) -> bool
     fits(*n, s) && fits(*n_2, s_2) && fits(*n_3, s_3)
 }
 
-/// The sum of the present ones of these cells.
+/// The sum of the present ones of these cells. Source: own.
 pub fn sum_of_present(cells: &[Cell]) -> i64
     requires { length cells.now ≤ 2 ^ 26 }
     ensures sum { result ≡ sum_of (filter_map cell_value cells.now) }
@@ -37,6 +38,7 @@ pub fn sum_of_present(cells: &[Cell]) -> i64
 }
 
 /// The sum of the present cells of a proper region of an array of one dimension with these cells.
+/// Source: own.
 pub fn line_region_sum(cells: &[Cell], sides: &[Side; 3]) -> i64
     requires cells { length cells.now ≤ 2 ^ 26 }
     requires proper { array.is_proper (length cells.now ∷ 1 ∷ 1 ∷ []) sides.now ≡ true }

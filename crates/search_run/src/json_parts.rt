@@ -7,7 +7,7 @@ ghost use Rattle.search_run.specs.Json as json;
 use crate::name::is_name;
 use serde_json::Value;
 
-/// Whether a value is an object of n keys.
+/// Whether a value is an object of n keys. Source: own.
 pub fn has_keys(value: &Value, n: usize) -> bool
     ensures { result ≡ json.has_keys n (view value.now) }
 {
@@ -28,7 +28,7 @@ fn only_item(value: &Value) -> Option<&Value>
     }
 }
 
-/// The whole number of a value, where it is from `-bound` up to `bound`.
+/// The whole number of a value, where it is from `-bound` up to `bound`. Source: own.
 #[tactic(auto, unfolding(crate::specs::Json::number_within))]
 pub fn number_within(value: &Value, bound: u64) -> Option<i64>
     requires { bound < 2 ^ 62 }
@@ -45,7 +45,7 @@ pub fn number_within(value: &Value, bound: u64) -> Option<i64>
     }
 }
 
-/// The text at a key of an object.
+/// The text at a key of an object. Source: own.
 #[tactic(auto, unfolding(crate::specs::Json::text_at))]
 pub fn text_at<'v>(value: &'v Value, key: &str) -> Option<&'v str>
     ensures { option_map (λ s. s.now) result ≡ json.text_at key.now (view value.entry.now) }
@@ -56,7 +56,7 @@ pub fn text_at<'v>(value: &'v Value, key: &str) -> Option<&'v str>
     }
 }
 
-/// Whether this word stands at a key of an object.
+/// Whether this word stands at a key of an object. Source: own.
 pub fn text_is(value: &Value, key: &str, word: &str) -> bool
     ensures { result ≡ json.text_is key.now word.now (view value.now) }
 {
@@ -66,7 +66,7 @@ pub fn text_is(value: &Value, key: &str, word: &str) -> bool
     }
 }
 
-/// The text at a key of an object, where it has the form of a name.
+/// The text at a key of an object, where it has the form of a name. Source: own.
 #[tactic(auto, unfolding(crate::specs::Json::name_at))]
 pub fn name_at<'v>(value: &'v Value, key: &str) -> Option<&'v str>
     ensures name { option_map (λ s. s.now) result ≡ json.name_at key.now (view value.entry.now) }
@@ -84,7 +84,7 @@ pub fn name_at<'v>(value: &'v Value, key: &str) -> Option<&'v str>
     }
 }
 
-/// The whole number at a key of an object, where it is from `-bound` up to `bound`.
+/// The whole number at a key of an object, where it is from `-bound` up to `bound`. Source: own.
 #[tactic(auto, unfolding(crate::specs::Json::number_at))]
 pub fn number_at(value: &Value, bound: u64, key: &str) -> Option<i64>
     requires { bound < 2 ^ 62 }
@@ -97,7 +97,7 @@ pub fn number_at(value: &Value, bound: u64, key: &str) -> Option<i64>
     }
 }
 
-/// The item of the array of one at a key of an object.
+/// The item of the array of one at a key of an object. Source: own.
 #[tactic(auto, unfolding(crate::specs::Json::item_at))]
 pub fn item_at<'v>(value: &'v Value, key: &str) -> Option<&'v Value>
     ensures { option_map (λ v. view v.now) result ≡ json.item_at key.now (view value.entry.now) }

@@ -6,7 +6,7 @@ ghost use Rattle.source_io.specs.Written.{appended, AppendsFront};
 ghost use Rattle.search_run.specs.Problem.{LoadsQuery, LoadsProblem, IsTold, IsOfReading};
 
 use crate::problem::Problem;
-use crate::query_form::{MOST_BYTES, read_query};
+use crate::query_form::{MOST_QUERY_BYTES, read_query};
 use crate::{Ending, QueryFault, QueryRefusal, Window};
 use array_file::{CellsFault, HeaderFault, read_cells, read_header};
 use source_io::{ByteSource, OpenFault, Shelf, read_whole};
@@ -35,7 +35,7 @@ fn query_from<S: ByteSource>(alloc: Global, source: &mut S) -> Result<Window, En
     ensures cause { IsErrOf result Ending.ReadFault → Rose (S.faults source.old) (S.faults source.new) }
     ensures faults { S.faults source.old ≤ S.faults source.new }
 {
-    if source.size() > MOST_BYTES as u64 {
+    if source.size() > MOST_QUERY_BYTES as u64 {
         return Err(Ending::QueryRefused(QueryRefusal::NotBuilt));
     }
     let bytes = match read_all(alloc, source) {
@@ -111,7 +111,7 @@ fn load_from<F: Shelf>(
     }
 }
 
-/// Opens an array file and a query file, loads what they hold and hands both back.
+/// Opens an array file and a query file, loads what they hold and hands both back. Source: own.
 pub fn load<F: Shelf>(
     alloc: Global,
     array: &str,

@@ -27,6 +27,7 @@ fn all_continue(text: &[u8]) -> bool
 }
 
 /// Whether these bytes have the form of a name: 1 to 32 letters, digits and underscores, no digit first.
+/// Source: own.
 pub fn is_name(text: &[u8]) -> bool
     ensures form { result ≡ form.is_name text.now }
     ensures short { result ≡ true → length text.now ≤ 32 }
@@ -34,7 +35,7 @@ pub fn is_name(text: &[u8]) -> bool
     1 <= text.len() && text.len() <= 32 && begins_name(text[0]) && all_continue(text)
 }
 
-/// The name with these bytes.
+/// The name with these bytes. Source: own.
 pub fn name_of(text: &[u8]) -> Name
     requires { length text.now ≤ 32 }
     ensures { result ≡ form.name_of text.now }

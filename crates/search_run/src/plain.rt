@@ -90,6 +90,7 @@ impl Window {
 }
 
 /// The solutions on an array of one dimension with these cells, in order. Its only error is want of memory.
+/// Source: own.
 pub fn solutions(alloc: Global, window: &Window, cells: &[Cell]) -> Result<Vec<Point>, AllocError>
     requires { length cells.now ≤ 2 ^ 26 }
     ensures answer { IfOk result (λ points.

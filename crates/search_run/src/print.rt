@@ -26,7 +26,7 @@ fn line(window: &Window, point: &Point) -> Line
 }
 
 /// Prints the line of each of these solutions, in order, by one `write_whole` each. `Failed` where a
-/// write was not done, which the sink counts; a front of the lines was then written.
+/// write was not done, which the sink counts; a front of the lines was then written. Source: own.
 pub fn print<K: Sink>(window: &Window, points: &[Point], sink: &mut K) -> Result<(), Failed>
     requires { All (λ p. length p ≡ 1) points.now }
     ensures written { Writes result (lines_of (query_of window.now) points.now)

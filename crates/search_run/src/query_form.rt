@@ -12,8 +12,8 @@ use crate::{Expr, QueryFault, QueryRefusal, Region, Term, Variable, Window};
 use serde_json::Value;
 use std::alloc::Global;
 
-/// How many bytes a query file has at most.
-pub const MOST_BYTES: usize = 1048576;
+/// How many bytes a query file has at most. Source: own.
+pub const MOST_QUERY_BYTES: usize = 1048576;
 
 const NO_TERM: Term = Term { factor: 0, var: 0 };
 
@@ -222,11 +222,11 @@ fn read_short_query(alloc: Global, bytes: &[u8]) -> Result<Window, QueryFault>
 }
 
 /// Reads the query that a file with these bytes holds. `Refused` exactly where they hold none that is
-/// read so far, and `NoMemory` where memory ran out.
+/// read so far, and `NoMemory` where memory ran out. Source: own.
 pub fn read_query(alloc: Global, bytes: &[u8]) -> Result<Window, QueryFault>
     ensures { ReadsQuery bytes.now result }
 {
-    if bytes.len() <= MOST_BYTES {
+    if bytes.len() <= MOST_QUERY_BYTES {
         read_short_query(alloc, bytes)
     } else {
         Err(QueryFault::Refused(QueryRefusal::NotBuilt))

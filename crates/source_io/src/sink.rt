@@ -26,6 +26,7 @@ pub trait Sink {
 
 /// Writes the whole piece, by as many writes as it takes.
 /// `Failed` where one of them was not done; a front of the piece was then taken. An empty piece makes no write.
+/// Source: own.
 pub fn write_whole<K: Sink>(sink: &mut K, piece: &[u8]) -> Result<(), Failed>
     ensures written { Writes result piece.now (K.written sink.old) (K.written sink.new) }
     ensures cause { OnErr result (Rose (K.faults sink.old) (K.faults sink.new)) }

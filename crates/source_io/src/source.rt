@@ -49,7 +49,7 @@ pub trait ByteSource {
 }
 
 /// Fills the whole of `into` with the bytes from place `at`, by as many reads as it takes.
-/// `Failed` where one of them was not done. An empty `into` makes no read.
+/// `Failed` where one of them was not done. An empty `into` makes no read. Source: own.
 pub fn read_whole<S: ByteSource>(src: &mut S, at: u64, into: &mut [u8]) -> Result<(), Failed>
     requires { at + length into.old ≤ S.len src.old }
     ensures bytes { OnOk result (Holds (S.bytes src.old) at (length into.old) into.new) }

@@ -5,6 +5,7 @@ ghost use Rattle.source_io.specs.Told.{Fills};
 use crate::{ByteSource, Failed};
 
 /// Bytes in memory. It tells its bytes, fills each read whole, and its count of faults is the constant 0.
+/// Source: own.
 #[derive(Drop)]
 pub struct SureSource {
     /// What is read.
