@@ -1,5 +1,9 @@
 pub mod Among
 pub mod Lines
+pub mod Orders
+pub mod Parts
+pub mod Passes
 pub mod Ranges
+pub mod Records
 pub mod Regions
 pub mod Sums

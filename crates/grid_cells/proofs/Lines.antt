@@ -1,7 +1,6 @@
 -- The counts of a line.
-use Rattle.std.proofs.Common.{◌≡◌, ℕ, ◌/◌, ◌%◌, ◌<◌, ◌≤◌, [], ◌∷◌, refl, arith}
+use Rattle.std.proofs.Common.{◌≡◌, ℕ, ◌/◌, ◌%◌, ◌<◌, ◌≤◌, refl, arith}
 use Rattle.std.proofs.Math.Nat.{div-eq_of_lt-le, div-eq_of_lt, mod-eq_of_lt, div-one, mod-one}
-use Rattle.grid_cells.specs.Array.{coordinates_of}
 use Rattle.grid_cells.specs.LayoutParts.{pieces_of, line_layout, chunk_cells, chunk_count, chunk_of, place_in_chunk}
 
 -- one piece of its own length covers an extent
@@ -13,9 +12,6 @@ chunk_count-line n some = let e = pieces_of-self n some in rw e refl
 
 pub chunk_cells-line : (n : ℕ) → chunk_cells (line_layout n) ≡ n
 chunk_cells-line n = omega arith
-
-pub coordinates_of-line : (n k : ℕ) → coordinates_of (n ∷ 1 ∷ 1 ∷ []) k ≡ k ∷ 0 ∷ 0 ∷ []
-coordinates_of-line n k = simp (div-one, mod-one)
 
 pub chunk_of-line : (n k : ℕ) → k < n → chunk_of (line_layout n) k ≡ 0
 chunk_of-line n k below = let z : k / n ≡ 0 = div-eq_of_lt below in simp (div-one, mod-one, z)

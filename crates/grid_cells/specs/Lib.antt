@@ -1,4 +1,5 @@
 pub mod Numbers
+pub mod Records
 pub mod Array
 pub mod Cells
 pub mod LayoutParts

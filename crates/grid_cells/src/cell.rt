@@ -7,14 +7,14 @@ ghost use Rattle.grid_cells.specs.Cells.{cell_value};
 pub struct Cell(pub i32);
 
 impl Cell {
-    /// Whether the cell is empty.
+    /// Whether the cell is empty. Source: own.
     pub fn is_empty(self) -> bool
         ensures { IsTrue result ↔ (self.0 ≡ negsuc 2147483647) }
     {
         self.0 == i32::MIN
     }
 
-    /// The number, or `None` exactly where the cell is empty.
+    /// The number, or `None` exactly where the cell is empty. Source: own.
     pub fn value(self) -> Option<i32>
         ensures { result ≡ cell_value self }
     {

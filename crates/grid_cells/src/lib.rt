@@ -1,12 +1,14 @@
-//! Cells and the geometry of arrays: shapes, rectangles, regions and their sides, layouts in chunks and blocks.
-//! Nothing here takes memory or touches the outside.
+//! Cells, their records, and the geometry of arrays: shapes, rectangles, regions and their sides, layouts in
+//! chunks and blocks. Nothing here takes memory or touches the outside.
 //! Definitions: `specs/Array` (an array, a region's places and present cells), `specs/Numbers` (count, sum,
-//! least, greatest), `specs/Cells` (stored cells), `specs/LayoutParts` (chunks and blocks as numbers) and
-//! `specs/Rules` (the rules that a layout keeps, in their order).
+//! least, greatest), `specs/Records` (records of numbers), `specs/Cells` (stored cells), `specs/LayoutParts`
+//! (chunks and blocks as numbers) and `specs/Rules` (the rules that a layout keeps, in their order).
 #![tactic(auto)]
 
 pub mod cell;
+pub mod laws;
 pub mod layout;
+pub mod record;
 pub mod rect;
 pub mod refusal;
 pub mod region;
@@ -15,8 +17,9 @@ pub mod side;
 
 pub use crate::cell::Cell;
 pub use crate::layout::{LONGEST_LINE, Layout, MOST_CELLS, MOST_CHUNK_CELLS};
+pub use crate::record::{Record, fold, merge};
 pub use crate::rect::Rect;
 pub use crate::refusal::LayoutRefusal;
-pub use crate::region::{is_proper, line_region_sum, sum_of_present};
+pub use crate::region::{is_proper, region_record};
 pub use crate::shape::Shape;
 pub use crate::side::Side;

@@ -1,18 +1,14 @@
-//! Regions of arrays: whether they are proper, and sums of their present cells.
-ghost use Rattle.std.specs.Prelude.{◌≡◌, ◌≤◌, ◌∷◌, [], ◌^◌, length, filter_map, true};
+//! Regions of arrays: whether they are proper, and the records of their present cells.
+ghost use Rattle.std.specs.Prelude.{◌≡◌, ◌≤◌, ◌<◌, ◌+◌, ◌-◌, ◌*◌, ◌^◌, ℕ, pos, ◌≤ℤ◌, unsigned_abs, length, ◌∷◌, [], take, drop, filter_map, true, IsTrue, ◌↔◌};
+ghost use Rattle.std.specs.List.{flat_map, range_with_len};
 ghost use Rattle.grid_cells.specs.Array as array;
 ghost use Rattle.grid_cells.specs.Array.{present_cells};
 ghost use Rattle.grid_cells.specs.Cells.{array_of, cell_value};
-ghost use Rattle.grid_cells.specs.Numbers.{sum_of, IsWithin};
+ghost use Rattle.grid_cells.specs.Numbers.{product, IsWithin};
+ghost use Rattle.grid_cells.specs.Records.{record_of};
 
+use crate::record::{NOTHING, Record, fold, merge};
 use crate::{Cell, Shape, Side};
-
-/// Whether a side has a place, and all its places are within an extent of n.
-fn fits(n: u32, s: &Side) -> bool
-    ensures { result ≡ array.fits n s.now }
-{
-    0 <= s.from && s.from < s.to && s.to <= n as i64
-}
 
 /// Whether a region, given by its side in each dimension, has a place and lies within an array of this shape.
 /// Source: own.
@@ -24,26 +20,210 @@ pub fn is_proper(shape: &Shape, sides: &[Side; 3]) -> bool
     fits(*n, s) && fits(*n_2, s_2) && fits(*n_3, s_3)
 }
 
-/// The sum of the present ones of these cells. Source: own.
-pub fn sum_of_present(cells: &[Cell]) -> i64
-    requires { length cells.now ≤ 2 ^ 26 }
-    ensures sum { result ≡ sum_of (filter_map cell_value cells.now) }
-    ensures within { IsWithin result (2 ^ 57) }
+/// The record of the present cells of a proper region, given by its side in each dimension, of an array of
+/// this shape. The cells stand in row-major order, the last dimension fastest; the rank does not matter.
+/// Rows or planes that the region has whole are read in one run. Source: own.
+pub fn region_record(shape: &Shape, cells: &[Cell], sides: &[Side; 3]) -> Record
+    requires few { length cells.now ≤ 2 ^ 26 }
+    requires cells { length cells.now ≡ product shape.now.extents }
+    requires proper { array.is_proper shape.now.extents sides.now ≡ true }
+    ensures record { (rank : ℕ) →
+        result ≡ record_of (present_cells (array_of rank shape.now.extents cells.now) sides.now) }
+    ensures few { result.count ≤ length cells.now }
+    ensures each { IsWithin result.sum (2 ^ 31 * result.count) }
+    ensures within { IsWithin result.sum (2 ^ 57) }
 {
-    let mut sum = 0;
-    for c in cells {
-        sum += c.value().unwrap_or(0) as i64;
+    let [_, rows, columns] = &shape.extents;
+    let [along, across, across_2] = sides;
+    if has_all(*rows, across) && has_all(*columns, across_2) {
+        run_record(cells, *rows as usize * *columns as usize, along)
+    } else {
+        planes_record(&[*rows, *columns], cells, along, &[*across, *across_2])
     }
-    sum
 }
 
-/// The sum of the present cells of a proper region of an array of one dimension with these cells.
-/// Source: own.
-pub fn line_region_sum(cells: &[Cell], sides: &[Side; 3]) -> i64
-    requires cells { length cells.now ≤ 2 ^ 26 }
-    requires proper { array.is_proper (length cells.now ∷ 1 ∷ 1 ∷ []) sides.now ≡ true }
-    ensures { result ≡ sum_of (present_cells (array_of 1 (length cells.now ∷ 1 ∷ 1 ∷ []) cells.now) sides.now) }
+/// Whether a side has a place, and all its places are within an extent of n.
+fn fits(n: u32, s: &Side) -> bool
+    ensures { result ≡ array.fits n s.now }
 {
-    let [side, _, _] = sides;
-    sum_of_present(&cells[side.from as usize..side.to as usize])
+    0 <= s.from && s.from < s.to && s.to <= n as i64
+}
+
+/// Whether a side has every place of an extent of n.
+fn has_all(n: u32, s: &Side) -> bool
+    ensures { IsTrue result ↔ (s.now.from ≤ℤ pos 0) × (pos n ≤ℤ s.now.to) }
+{
+    s.from <= 0 && n as i64 <= s.to
+}
+
+/// The record of the present cells of the planes that one side has, within the places that two others have
+/// in each plane.
+fn planes_record(plane: &[u32; 2], cells: &[Cell], along: &Side, across: &[Side; 2]) -> Record
+    requires few { length cells.now ≤ 2 ^ 26 }
+    requires from { pos 0 ≤ℤ along.now.from }
+    requires ordered { along.now.from ≤ℤ along.now.to }
+    requires planes { unsigned_abs along.now.to * product plane.now ≤ length cells.now }
+    requires across { array.is_proper plane.now across.now ≡ true }
+    ensures record { let from = unsigned_abs along.now.from in let to = unsigned_abs along.now.to in
+        let size = product plane.now in
+        result ≡ record_of (flat_map
+        (λ p. present_cells (array_of 2 plane.now (take size (drop (p * size) cells.now))) across.now)
+        (range_with_len from (to - from))) }
+    ensures few { result.count ≤ length cells.now }
+    ensures each { IsWithin result.sum (2 ^ 31 * result.count) }
+{
+    let [rows, columns] = plane;
+    let size = *rows as usize * *columns as usize;
+    let mut all = NOTHING;
+    for p in along.from as usize..along.to as usize {
+        let part = &cells[p * size..p * size + size];
+        all = merge(all, plane_record(plane, part, across));
+    }
+    all
+}
+
+/// The record of the present cells of a proper region of a plane.
+fn plane_record(extents: &[u32; 2], cells: &[Cell], sides: &[Side; 2]) -> Record
+    requires few { length cells.now ≤ 2 ^ 26 }
+    requires cells { length cells.now ≡ product extents.now }
+    requires proper { array.is_proper extents.now sides.now ≡ true }
+    ensures record { result ≡ record_of (present_cells (array_of 2 extents.now cells.now) sides.now) }
+    ensures few { result.count ≤ length cells.now }
+    ensures each { IsWithin result.sum (2 ^ 31 * result.count) }
+{
+    let [_, columns] = extents;
+    let [along, across] = sides;
+    if has_all(*columns, across) {
+        run_record(cells, *columns as usize, along)
+    } else {
+        rows_record(*columns as usize, cells, along, across)
+    }
+}
+
+/// The record of the present cells of the rows that one side has, within the places that another one has
+/// in each row, which is so many cells long.
+fn rows_record(columns: usize, cells: &[Cell], along: &Side, across: &Side) -> Record
+    requires few { length cells.now ≤ 2 ^ 26 }
+    requires from { pos 0 ≤ℤ along.now.from }
+    requires ordered { along.now.from ≤ℤ along.now.to }
+    requires rows { unsigned_abs along.now.to * columns ≤ length cells.now }
+    requires across { array.fits columns across.now ≡ true }
+    ensures record { let from = unsigned_abs along.now.from in let to = unsigned_abs along.now.to in
+        result ≡ record_of (flat_map
+        (λ r. present_cells (array_of 1 (columns ∷ []) (take columns (drop (r * columns) cells.now))) (across.now ∷ []))
+        (range_with_len from (to - from))) }
+    ensures few { result.count ≤ length cells.now }
+    ensures each { IsWithin result.sum (2 ^ 31 * result.count) }
+{
+    let mut all = NOTHING;
+    for r in along.from as usize..along.to as usize {
+        let row = &cells[r * columns..r * columns + columns];
+        all = merge(all, run_record(row, 1, across));
+    }
+    all
+}
+
+/// The record of those parts of the cells that a side has, where each part is so many cells long.
+fn run_record(cells: &[Cell], size: usize, side: &Side) -> Record
+    requires few { length cells.now ≤ 2 ^ 26 }
+    requires from { pos 0 ≤ℤ side.now.from }
+    requires ordered { side.now.from ≤ℤ side.now.to }
+    requires within { unsigned_abs side.now.to * size ≤ length cells.now }
+    ensures record { let from = unsigned_abs side.now.from in let to = unsigned_abs side.now.to in
+        result ≡ record_of (filter_map cell_value (take ((to - from) * size) (drop (from * size) cells.now))) }
+    ensures few { result.count ≤ length cells.now }
+    ensures each { IsWithin result.sum (2 ^ 31 * result.count) }
+{
+    fold(&cells[side.from as usize * size..side.to as usize * size])
+}
+
+#[cfg(test)]
+mod tests {
+    use super::*;
+
+    /// The places from one up to but not including another.
+    fn places(from: i64, to: i64) -> Side
+        ensures { result ≡ record { from = from; to = to } }
+    {
+        Side { from, to }
+    }
+
+    #[test]
+    fn a_part_of_a_plane_of_three_rows(rt: HostRuntime) {
+        let cells = [
+            Cell(1),
+            Cell(2),
+            Cell(3),
+            Cell(4),
+            Cell(5),
+            Cell(6),
+            Cell(7),
+            Cell(8),
+            Cell(9),
+            Cell(10),
+            Cell(11),
+            Cell(12),
+        ];
+        let shape = Shape { extents: [3, 4, 1] };
+        let sides = [places(1, 3), places(2, 4), places(0, 1)];
+        let record = Record {
+            least: 7,
+            greatest: 12,
+            sum: 38,
+            count: 4,
+        };
+        assert_eq!(rt; region_record(&shape, &cells, &sides), record);
+    }
+
+    #[test]
+    fn a_part_of_a_line(rt: HostRuntime) {
+        let cells = [Cell(4), Cell(8), Cell(-2147483648), Cell(6), Cell(2)];
+        let shape = Shape { extents: [5, 1, 1] };
+        let sides = [places(1, 4), places(0, 1), places(0, 1)];
+        let record = Record {
+            least: 6,
+            greatest: 8,
+            sum: 14,
+            count: 2,
+        };
+        assert_eq!(rt; region_record(&shape, &cells, &sides), record);
+    }
+
+    #[test]
+    fn parts_of_two_planes_with_empty_cells(rt: HostRuntime) {
+        let empty = Cell(-2147483648);
+        let cells = [
+            Cell(5),
+            empty,
+            Cell(-3),
+            Cell(7),
+            Cell(1),
+            empty,
+            empty,
+            empty,
+            Cell(4),
+            Cell(-8),
+            Cell(2),
+            Cell(9),
+        ];
+        let shape = Shape { extents: [2, 2, 3] };
+        let last_columns = Record {
+            least: -3,
+            greatest: 4,
+            sum: 1,
+            count: 2,
+        };
+        let sides = [places(0, 2), places(0, 1), places(1, 3)];
+        assert_eq!(rt; region_record(&shape, &cells, &sides), last_columns);
+        let whole = Record {
+            least: -8,
+            greatest: 9,
+            sum: 17,
+            count: 8,
+        };
+        let sides = [places(0, 2), places(0, 2), places(0, 3)];
+        assert_eq!(rt; region_record(&shape, &cells, &sides), whole);
+        let sides = [places(1, 2), places(0, 1), places(0, 2)];
+        assert_eq!(rt; region_record(&shape, &cells, &sides), NOTHING);
+    }
 }

@@ -3,17 +3,17 @@ use Rattle.std.specs.Prelude.{ℕ, ℤ, pos, ◌&&◌, nat_le, List, [], ◌∷�
 use Rattle.std.specs.Str.{bytes_eq}
 use Rattle.serde_json.specs.Data.{Data}
 use Rattle.serde_json.specs.Find.{as_str}
-use Rattle.search_run.specs.declared.query.Expr.{Expr}
-use Rattle.search_run.specs.declared.query.Variable.{Variable}
-use Rattle.search_run.specs.declared.query.Region.{Region}
-use Rattle.search_run.specs.declared.query.Compare.TheVariants.{Ge}
-use Rattle.search_run.specs.declared.query.Agg.TheVariants.{Sum}
-use Rattle.search_run.specs.declared.query.Constraint.TheVariants.{Aggregate}
+use Rattle.query_model.specs.declared.parts.Expr.{Expr}
+use Rattle.query_model.specs.declared.parts.Variable.{Variable}
+use Rattle.query_model.specs.declared.parts.Region.{Region}
+use Rattle.query_model.specs.declared.parts.Compare.TheVariants.{Ge}
+use Rattle.query_model.specs.declared.parts.Agg.TheVariants.{Sum}
+use Rattle.query_model.specs.declared.parts.Constraint.TheVariants.{Aggregate}
 use Rattle.search_run.specs.declared.query_refusal.QueryRefusal.{QueryRefusal}
 use Rattle.search_run.specs.declared.query_refusal.QueryRefusal.TheVariants.{NotBuilt}
-use Rattle.search_run.specs.NameForm.{name_of}
+use Rattle.query_model.specs.NameForm.{name_of}
 use Rattle.search_run.specs.Json.{json_of, has_keys, number_within, text_is, name_at, number_at, item_at}
-use Rattle.search_run.specs.Constraint.{Query}
+use Rattle.query_model.specs.declared.query.Query.{Query}
 
 -- ---- limits
 

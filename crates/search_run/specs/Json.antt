@@ -5,7 +5,7 @@ use Rattle.std.specs.Str.{is_utf8, bytes_eq}
 use Rattle.serde_json.specs.Data.{Data, Members, no_members, member}
 use Rattle.serde_json.specs.Read.{read}
 use Rattle.serde_json.specs.Find.{get, at, as_number, as_i64, as_str, as_object}
-use Rattle.search_run.specs.NameForm.{is_name}
+use Rattle.query_model.specs.NameForm.{is_name}
 
 -- the value that these bytes hold, where they are JSON
 abbrev pub json_of : List ℕ → Option Data

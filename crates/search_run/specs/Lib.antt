@@ -1,10 +1,3 @@
-pub mod Padded
-pub mod Bounded
-pub mod Value
-pub mod Constraint
-pub mod Answer
-pub mod Text
-pub mod NameForm
 pub mod Json
 pub mod Form
 pub mod Window

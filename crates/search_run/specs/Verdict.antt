@@ -4,7 +4,7 @@ use Rattle.std.specs.Global.{Global}
 use Rattle.std.specs.Option.{option_map_or}
 use Rattle.source_io.specs.Files.{Files, bytes_at}
 use Rattle.array_file.specs.Stored.{refusal_of, stored_array}
-use Rattle.search_run.specs.Text.{text_of}
+use Rattle.query_model.specs.Text.{text_of}
 use Rattle.search_run.specs.Form.{stored_query, query_refusal}
 use Rattle.search_run.specs.Words.{Command, solo, command_in}
 use Rattle.search_run.specs.declared.ending.Ending.{Ending}

@@ -3,7 +3,7 @@ use Rattle.std.specs.Prelude.{◌≡◌, ℕ, List, Some, None, Result, Ok, Err}
 use Rattle.search_run.specs.declared.window.Window.{Window}
 use Rattle.search_run.specs.declared.query_refusal.QueryFault.{QueryFault}
 use Rattle.search_run.specs.declared.query_refusal.QueryFault.TheVariants.{Refused, NoMemory}
-use Rattle.search_run.specs.Constraint.{Query}
+use Rattle.query_model.specs.declared.query.Query.{Query}
 use Rattle.search_run.specs.Form.{sum_query, stored_query, query_refusal, query_in}
 
 -- its variable and its region, whose sum is at least its number

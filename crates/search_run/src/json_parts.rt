@@ -1,7 +1,8 @@
 //! Parts of JSON values, as `serde_json` reads them.
-ghost use Rattle.std.specs.Prelude.{◌≡◌, ◌≤◌, ◌<◌, ◌^◌, option_map, length, IfSome};
+ghost use Rattle.std.specs.Prelude.{◌≡◌, ◌≤◌, ◌<◌, ◌^◌, option_map, true, IfSome};
 ghost use Rattle.serde_json.specs.View.{view};
 ghost use Rattle.grid_cells.specs.Numbers.{IsWithin};
+ghost use Rattle.query_model.specs.NameForm.{is_name};
 ghost use Rattle.search_run.specs.Json as json;
 
 use crate::name::is_name;
@@ -70,7 +71,7 @@ pub fn text_is(value: &Value, key: &str, word: &str) -> bool
 #[tactic(auto, unfolding(crate::specs::Json::name_at))]
 pub fn name_at<'v>(value: &'v Value, key: &str) -> Option<&'v str>
     ensures name { option_map (λ s. s.now) result ≡ json.name_at key.now (view value.entry.now) }
-    ensures short { IfSome result (λ s. length s.now ≤ 32) }
+    ensures form { IfSome result (λ s. is_name s.now ≡ true) }
 {
     match text_at(value, key) {
         Some(text) => {

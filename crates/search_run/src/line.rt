@@ -23,7 +23,7 @@ impl Model for Line {
 }
 
 impl Line {
-    /// A line with nothing on it.
+    /// A line with nothing on it. Source: own.
     pub fn new() -> Line
         ensures { result ≡ [] }
     {
@@ -33,7 +33,7 @@ impl Line {
         }
     }
 
-    /// Puts a piece at its end.
+    /// Puts a piece at its end. Source: own.
     pub fn push(&mut self, piece: &[u8])
         requires { length self.old + length piece.now ≤ 400 }
         ensures { self.new ≡ self.old ++ piece.now }
@@ -43,7 +43,7 @@ impl Line {
         self.len = end;
     }
 
-    /// Puts a number at its end, in decimal.
+    /// Puts a number at its end, in decimal. Source: own.
     pub fn push_number(&mut self, n: u64)
         requires { length self.old ≤ 360 }
         ensures number { self.new ≡ self.old ++ decimal n }
@@ -53,7 +53,7 @@ impl Line {
         self.push(digits.format(n).as_bytes());
     }
 
-    /// Its bytes.
+    /// Its bytes. Source: own.
     pub fn as_bytes(&self) -> &[u8]
         ensures { result.now ≡ self.now }
     {

@@ -1,9 +1,10 @@
 //! The form of names.
-ghost use Rattle.std.specs.Prelude.{◌≡◌, ◌≤◌, length, true};
+ghost use Rattle.std.specs.Prelude.{◌≡◌, ◌≤◌, true};
 ghost use Rattle.std.specs.List.{list_all};
-ghost use Rattle.search_run.specs.NameForm as form;
+ghost use Rattle.query_model.specs.NameForm as form;
+ghost use Rattle.query_model.specs.NameForm.{IsName};
 
-use crate::Name;
+use query_model::Name;
 
 /// Whether a name may begin with a byte: an ASCII letter or an underscore.
 fn begins_name(b: u8) -> bool
@@ -29,16 +30,17 @@ fn all_continue(text: &[u8]) -> bool
 /// Whether these bytes have the form of a name: 1 to 32 letters, digits and underscores, no digit first.
 /// Source: own.
 pub fn is_name(text: &[u8]) -> bool
-    ensures form { result ≡ form.is_name text.now }
-    ensures short { result ≡ true → length text.now ≤ 32 }
+    ensures { result ≡ form.is_name text.now }
 {
     1 <= text.len() && text.len() <= 32 && begins_name(text[0]) && all_continue(text)
 }
 
 /// The name with these bytes. Source: own.
+#[tactic(auto, using(query_model::proofs::Names::is_name_short))]
 pub fn name_of(text: &[u8]) -> Name
-    requires { length text.now ≤ 32 }
-    ensures { result ≡ form.name_of text.now }
+    requires { form.is_name text.now ≡ true }
+    ensures bytes { result ≡ form.name_of text.now }
+    ensures form { IsName result }
 {
     let mut bytes = [0; 32];
     let len = text.len();

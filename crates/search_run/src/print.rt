@@ -2,11 +2,12 @@
 ghost use Rattle.std.specs.Prelude.{◌≡◌, ◌≤◌, ◌∷◌, [], All, length, OnErr};
 ghost use Rattle.source_io.specs.Told.{Rose};
 ghost use Rattle.source_io.specs.Written.{Writes};
-ghost use Rattle.search_run.specs.Text.{line_of, lines_of};
+ghost use Rattle.query_model.specs.Text.{line_of, lines_of};
 ghost use Rattle.search_run.specs.Window.{query_of};
 
+use crate::Window;
 use crate::line::Line;
-use crate::{Point, Window};
+use domains::Point;
 use itoa::Buffer;
 use source_io::{Failed, Sink, write_whole};
 

@@ -2,13 +2,14 @@
 ghost use Rattle.std.specs.Prelude.{◌≡◌, ◌≤◌, ◌^◌, IfSome, option_map};
 ghost use Rattle.serde_json.specs.View.{view};
 ghost use Rattle.grid_cells.specs.Numbers.{IsWithin};
-ghost use Rattle.search_run.specs.Bounded.{IsBounded, IsBoundedRegion};
+ghost use Rattle.query_model.specs.Rules.{IsExpr, IsVariable, IsRegion};
 ghost use Rattle.search_run.specs.Form as form;
 ghost use Rattle.search_run.specs.Window.{query_of, ReadsQuery, ReadsShortQuery};
 
 use crate::json_parts::{has_keys, item_at, name_at, number_at, number_within, text_is};
 use crate::name::name_of;
-use crate::{Expr, QueryFault, QueryRefusal, Region, Term, Variable, Window};
+use crate::{QueryFault, QueryRefusal, Window};
+use query_model::{Expr, Region, Term, Variable};
 use serde_json::Value;
 use std::alloc::Global;
 
@@ -21,7 +22,7 @@ const NO_TERM: Term = Term { factor: 0, var: 0 };
 fn constant(n: i64) -> Expr
     requires { IsWithin n (2 ^ 31) }
     ensures constant { result ≡ form.constant n }
-    ensures bounded { IsBounded 1 result }
+    ensures rules { IsExpr 1 result }
 {
     Expr {
         constant: n,
@@ -33,7 +34,7 @@ fn constant(n: i64) -> Expr
 /// The first variable alone.
 fn first_variable() -> Expr
     ensures variable { result ≡ form.first_variable }
-    ensures bounded { IsBounded 1 result }
+    ensures rules { IsExpr 1 result }
 {
     let variable = Term { factor: 1, var: 0 };
     Expr {
@@ -49,7 +50,7 @@ fn first_variable() -> Expr
 #[tactic(auto, unfolding(crate::specs::Form::expression_of))]
 fn expression_of(variable: &[u8], value: &Value) -> Option<Expr>
     ensures expression { result ≡ form.expression_of variable.now (view value.now) }
-    ensures bounded { IfSome result (IsBounded 1) }
+    ensures rules { IfSome result (IsExpr 1) }
 {
     match value.as_str() {
         Some(text) => {
@@ -70,7 +71,7 @@ fn expression_of(variable: &[u8], value: &Value) -> Option<Expr>
 #[tactic(auto, unfolding(crate::specs::Form::expression_at))]
 fn expression_at(variable: &[u8], key: &str, value: &Value) -> Option<Expr>
     ensures expression { result ≡ form.expression_at variable.now key.now (view value.now) }
-    ensures bounded { IfSome result (IsBounded 1) }
+    ensures rules { IfSome result (IsExpr 1) }
 {
     match item_at(value, key) {
         Some(item) => expression_of(variable, item),
@@ -81,7 +82,8 @@ fn expression_at(variable: &[u8], key: &str, value: &Value) -> Option<Expr>
 /// An end of a range, at a key.
 #[tactic(auto, unfolding(crate::specs::Json::number_at))]
 fn range_end_at(value: &Value, key: &str) -> Option<i32>
-    ensures { result ≡ form.range_end_at key.now (view value.now) }
+    ensures number { result ≡ form.range_end_at key.now (view value.now) }
+    ensures within { IfSome result (λ n. IsWithin n (2 ^ 20)) }
 {
     match number_at(value, 1048576, key) {
         Some(n) => Some(n as i32),
@@ -93,7 +95,7 @@ fn range_end_at(value: &Value, key: &str) -> Option<i32>
 #[tactic(auto, unfolding(crate::specs::Form::variable_of))]
 fn variable_of(value: &Value) -> Option<Variable>
     ensures variable { result ≡ form.variable_of (view value.now) }
-    ensures short { IfSome result (λ v. v.name.len ≤ 32) }
+    ensures rules { IfSome result IsVariable }
 {
     if !has_keys(value, 3) {
         return None;
@@ -118,7 +120,7 @@ fn variable_of(value: &Value) -> Option<Variable>
 #[tactic(auto, unfolding(crate::specs::Form::region_of))]
 fn region_of(variable: &[u8], value: &Value) -> Option<Region>
     ensures region { result ≡ form.region_of variable.now (view value.now) }
-    ensures bounded { IfSome result (IsBoundedRegion 1) }
+    ensures rules { IfSome result (IsRegion 1 1) }
 {
     if !has_keys(value, 3) {
         return None;
@@ -142,7 +144,8 @@ fn region_of(variable: &[u8], value: &Value) -> Option<Region>
 /// The number that the sum of a region has to reach, by the constraint that a value stands for.
 #[tactic(auto, unfolding(crate::specs::Form::least_of))]
 fn least_of(region: &str, value: &Value) -> Option<i64>
-    ensures { result ≡ form.least_of region.now (view value.now) }
+    ensures number { result ≡ form.least_of region.now (view value.now) }
+    ensures within { IfSome result (λ n. IsWithin n (2 ^ 52)) }
 {
     if has_keys(value, 4)
         && text_is(value, "agg", "sum")

@@ -83,7 +83,7 @@ fn array_refused(refusal: LayoutRefusal) -> Line
 }
 
 impl Ending {
-    /// The exit status.
+    /// The exit status. Source: own.
     pub fn status(self) -> u8
         ensures status { result ≡ status_of self }
         ensures known { result ≤ 7 }
@@ -99,7 +99,7 @@ impl Ending {
         }
     }
 
-    /// The line for the error stream, which is empty where the output is whole.
+    /// The line for the error stream, which is empty where the output is whole. Source: own.
     pub fn message(self) -> Line
         ensures { result ≡ message_of self }
     {

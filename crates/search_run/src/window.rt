@@ -1,12 +1,12 @@
 //! The one form of query that is read so far.
-ghost use Rattle.std.specs.Prelude.{◌≤◌};
-ghost use Rattle.search_run.specs.Bounded.{IsBoundedRegion};
+ghost use Rattle.std.specs.Prelude.{◌^◌};
+ghost use Rattle.grid_cells.specs.Numbers.{IsWithin};
+ghost use Rattle.query_model.specs.Rules.{IsVariable, IsRegion};
 
-use crate::{Region, Variable};
+use query_model::{Region, Variable};
 
 /// A query of one variable, one region, and one constraint: the sum of the region's present cells is at
-/// least a number. So it looks for windows. Its type keeps that the region is one of the variable, with
-/// numbers so small that its sides fit 64 bits. Source: own.
+/// least a number. So it looks for windows. Its type keeps the rules of a query. Source: own.
 #[derive(Clone, Copy, Debug)]
 pub struct Window {
     /// What is varied.
@@ -15,6 +15,7 @@ pub struct Window {
     pub region: Region,
     /// What the sum has to reach.
     pub least: i64,
-    ghost bounded: { IsBoundedRegion 1 region },
-    ghost named: { variable.name.len ≤ 32 },
+    ghost of_variable: { IsVariable variable },
+    ghost of_region: { IsRegion 1 1 region },
+    ghost of_least: { IsWithin least (2 ^ 52) },
 }

@@ -2,7 +2,7 @@ use Rattle.std.proofs.Common.{subst, ap, ◌∙◌, arith}
 use Rattle.std.proofs.lemmas.Result.{MatchResult-from_err}
 use Rattle.source_io.specs.Written.{appended, AppendsFront}
 use Rattle.source_io.proofs.Writing.{pieces_more, pieces_front}
-use Rattle.search_run.specs.Text.{line_of}
+use Rattle.query_model.specs.Text.{line_of}
 use Rattle.search_run.specs.Window.{query_of}
 use Rattle.search_run.proofs.print.print.Goals as goal
 

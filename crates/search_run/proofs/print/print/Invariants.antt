@@ -1,6 +1,6 @@
 use Rattle.std.proofs.Common.{◌≡◌, ◌≤◌, take}
 use Rattle.source_io.specs.Written.{appended}
-use Rattle.search_run.specs.Text.{lines_of}
+use Rattle.query_model.specs.Text.{lines_of}
 use Rattle.search_run.specs.Window.{query_of}
 use Rattle.search_run.proofs.print.print.Given as goal
 

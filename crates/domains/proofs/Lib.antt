@@ -1,0 +1,13 @@
+pub mod Among
+pub mod Padding
+pub mod Ranges
+pub mod Rows
+pub mod Next
+pub mod Counts
+pub mod Doms
+pub mod Widest
+pub mod Shares
+pub mod Falls
+pub mod Before
+pub mod Parts
+pub mod Order

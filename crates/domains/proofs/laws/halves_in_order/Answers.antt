@@ -1,0 +1,5 @@
+use Rattle.domains.proofs.Before.{halves_order}
+use Rattle.domains.proofs.laws.halves_in_order.Goals as goal
+
+pub returns : goal.returns
+returns c = λ b h more. halves_order b h.values more

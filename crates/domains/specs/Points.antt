@@ -1,0 +1,47 @@
+-- Points, their order, and the points of a list of domains.
+use Rattle.std.specs.Prelude.{◌≡◌, ◌-◌, Contains, List, [], ◌∷◌, ◌++◌, length, replicate, map, flat_map, ℤ, pos, ◌+ℤ◌, ◌≤ℤ◌}
+use Rattle.std.specs.Ordering.{int_cmp, nat_cmp, ordering_then}
+use Rattle.std.specs.declared.cmp.Ordering.{Ordering}
+use Rattle.std.specs.declared.cmp.Ordering.TheVariants.{Less}
+use Rattle.std.specs.Cmp.Lexicographic.{slice_cmp}
+use Rattle.domains.specs.declared.dom.Dom.{Dom}
+use Rattle.domains.specs.Values.{values_of}
+
+-- the value of each variable, in order
+abbrev pub Point : Type 0
+Point = List ℤ
+
+-- the points of these domains by nested enumeration, the first variable outermost
+abbrev pub points_of : List Dom → List Point
+points_of [] = [] ∷ []
+points_of (d ∷ ds) = flat_map (λ v. map (λ p. v ∷ p) (points_of ds)) (values_of d)
+
+-- those points of these domains that come after a point, in order: first those with the same first value, and then those with a greater one
+abbrev pub points_after : List Dom → Point → List Point
+points_after [] p = []
+points_after (d ∷ ds) [] = []
+points_after (d ∷ ds) (x ∷ p) =
+    map (λ q. x ∷ q) (points_after ds p) ++ flat_map (λ v. map (λ q. v ∷ q) (points_of ds)) (values_of (record { lo = x +ℤ pos 1; hi = d.hi }))
+
+-- each value of a point is within its domain
+abbrev pub IsInBox : List Dom → Point → Type 0
+IsInBox [] [] = Unit {0}
+IsInBox [] (x ∷ p) = ⊥
+IsInBox (d ∷ ds) [] = ⊥
+IsInBox (d ∷ ds) (x ∷ p) = (d.lo ≤ℤ x) × (x ≤ℤ d.hi) × IsInBox ds p
+
+-- the first value in which two points differ is smaller in the first point
+abbrev pub ComesBefore : Point → Point → Type 0
+ComesBefore p p' = slice_cmp int_cmp p p' ≡ Less
+
+-- the values, and zeros behind them, eight in all
+abbrev pub with_zeros : Point → List ℤ
+with_zeros p = p ++ replicate (8 - length p) (pos 0)
+
+-- how points compare: by the values with zeros behind them, the first variable first, and at a tie by how many variables they have
+abbrev pub point_cmp : Point → Point → Ordering
+point_cmp p q = ordering_then (slice_cmp int_cmp (with_zeros p) (with_zeros q)) (nat_cmp (length p) (length q))
+
+-- all of these points come before all of those
+abbrev pub AllComeBefore : List Point → List Point → Type 0
+AllComeBefore ps qs = (p q : Point) → Contains ps p → Contains qs q → ComesBefore p q

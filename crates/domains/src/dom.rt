@@ -1,0 +1,36 @@
+//! Domains: the values that a variable may have.
+ghost use Rattle.std.specs.Prelude.{◌≡◌, ◌<◌, ◌≤◌, ◌^◌, pos, ◌+ℤ◌};
+ghost use Rattle.domains.specs.Values.{size_of};
+
+/// The whole numbers from `lo` up to and including `hi`; none where `lo` is above `hi`. Source: own.
+#[derive(Clone, Copy, Debug, PartialEq, Eq)]
+pub struct Dom {
+    /// The least value.
+    pub lo: i32,
+    /// The greatest value.
+    pub hi: i32,
+}
+
+impl Dom {
+    /// How many values it has, 0 where `lo` is above `hi`. Source: own.
+    pub fn count(&self) -> u64
+        ensures size { result ≡ size_of self.now }
+        ensures small { result ≤ 2 ^ 32 }
+    {
+        if self.lo <= self.hi {
+            u64::from(self.hi.abs_diff(self.lo)) + 1
+        } else {
+            0
+        }
+    }
+
+    /// The value at a place in it, from 0. Source: own.
+    #[tactic(auto, using(crate::proofs::Ranges::value_below))]
+    pub fn value(&self, k: u64) -> i32
+        requires { k < size_of self.now }
+        ensures { result ≡ self.now.lo +ℤ pos k }
+    {
+        let _hi = self.hi;
+        (i64::from(self.lo) + k as i64) as i32
+    }
+}

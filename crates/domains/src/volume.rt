@@ -1,0 +1,65 @@
+//! How many points a box has, its lowest corner, and its one point.
+ghost use Rattle.std.specs.Prelude.{◌≡◌, ◌≢◌, ◌<◌, ◌^◌, ◌∷◌, [], length, slice_get, IfSome, MatchOption};
+ghost use Rattle.std.specs.List.{list_all};
+ghost use Rattle.domains.specs.Values.{has_one_value};
+ghost use Rattle.domains.specs.Boxes.{points_in, lowest};
+
+use crate::{Dom, Point, VarBox};
+
+/// Whether no domain has two values.
+fn have_one_value(doms: &[Dom]) -> bool
+    ensures { result ≡ list_all has_one_value doms.now }
+{
+    doms.iter().all(|d| d.hi <= d.lo)
+}
+
+/// The least value of each variable.
+pub(crate) fn lowest_of(b: &VarBox) -> Point
+    ensures { result ≡ lowest b.now }
+{
+    let mut corner = Point::empty();
+    for d in b.doms() {
+        corner.push(d.lo);
+    }
+    corner
+}
+
+impl VarBox {
+    /// How many points it has, where they are fewer than 2^128. Source: own.
+    pub fn volume(&self) -> u128
+        requires { length (points_in self.now) < 2 ^ 128 }
+        ensures { result ≡ length (points_in self.now) }
+    {
+        if self.vars() == 0 {
+            return 0;
+        }
+        let mut points: u128 = 1;
+        for d in self.doms() {
+            points *= u128::from(d.count());
+        }
+        points
+    }
+
+    /// Its lowest corner, which is the first of its points. None exactly where it is empty. Source: own.
+    pub fn least(&self) -> Option<Point>
+        ensures first { result ≡ slice_get (points_in self.now) 0 }
+        ensures corner { IfSome result (λ p. p ≡ lowest self.now) }
+    {
+        if self.vars() == 0 {
+            return None;
+        }
+        Some(lowest_of(self))
+    }
+
+    /// Its point, where it has exactly one. None exactly where it has none or several. Source: own.
+    pub fn point(&self) -> Option<Point>
+        ensures { MatchOption result (length (points_in self.now) ≢ 1)
+            (λ p. points_in self.now ≡ p ∷ []) }
+    {
+        if have_one_value(self.doms()) {
+            self.least()
+        } else {
+            None
+        }
+    }
+}

@@ -1,0 +1,20 @@
+-- Names made of bytes.
+use Rattle.std.proofs.Common.{◌≡◌, ℕ, ◌-◌, ◌≤◌, true, nat_le, List, length, replicate, slice_index, ap, ◌∙◌}
+use Rattle.std.specs.List.{list_all}
+use Rattle.std.proofs.Math.Seq.{take-append_seam, drop-append_seam}
+use Rattle.query_model.specs.NameForm.{IsName, is_name, begins_name, continues_name, name_of}
+use Rattle.query_model.proofs.Deciding.{both, at_most}
+
+pub is_name_short : (text : List ℕ) → is_name text ≡ true → length text ≤ 32
+is_name_short text h =
+    let c = both _ (list_all continues_name text) h in
+    let d = both _ (begins_name (slice_index text 0)) c.0 in
+    at_most _ _ (both (nat_le 1 (length text)) (nat_le (length text) 32) d.0).1
+
+-- bytes of the form of names are those of a name
+pub named : (text : List ℕ) → is_name text ≡ true → IsName (name_of text)
+named text h = record {
+  short = is_name_short text h;
+  form = ap is_name (take-append_seam text (replicate (32 - length text) 0)) ∙ h;
+  padded = drop-append_seam text (replicate (32 - length text) 0);
+}

@@ -1,0 +1,24 @@
+-- The answer of a query on an array: its solutions, in order.
+use Rattle.std.specs.Prelude.{List, map, filter}
+use Rattle.grid_cells.specs.Array.{Array}
+use Rattle.domains.specs.declared.dom.Dom.{Dom}
+use Rattle.domains.specs.Points.{Point, points_of}
+use Rattle.query_model.specs.declared.query.Query.{Query}
+use Rattle.query_model.specs.declared.parts.Variable.{Variable}
+use Rattle.query_model.specs.Constraint.{is_solution}
+
+-- the solutions in a box, in order
+abbrev pub solutions_in : Array → Query → List Dom → List Point
+solutions_in a q box = filter (is_solution a q) (points_of box)
+
+-- the range of a variable
+abbrev pub domain_of : Variable → Dom
+domain_of v = record { lo = v.from; hi = v.to }
+
+-- the box of a query: the ranges of its variables
+abbrev pub box_of : Query → List Dom
+box_of q = map domain_of q.variables
+
+-- all solutions of a query, in order
+abbrev pub answer : Array → Query → List Point
+answer a q = solutions_in a q (box_of q)

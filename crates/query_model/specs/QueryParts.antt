@@ -1,0 +1,12 @@
+-- A query as its parts.
+use Rattle.std.specs.Prelude.{ℕ, List}
+use Rattle.query_model.specs.declared.parts.Variable.{Variable}
+use Rattle.query_model.specs.declared.parts.Region.{Region}
+use Rattle.query_model.specs.declared.parts.Constraint.{Constraint}
+
+-- the rank of the arrays that it is for, and its variables, regions and constraints
+pub record QueryParts : Type 0 where
+  pub rank : ℕ
+  pub variables : List Variable
+  pub regions : List Region
+  pub constraints : List Constraint

@@ -1,0 +1,111 @@
+//! The parts of queries, as plain data: clauses see them as their numbers and lists.
+
+/// A name of 1 to 32 bytes, an ASCII letter or `_` and then letters, digits and `_`. The bytes behind
+/// its length are 0. Source: own.
+#[derive(Clone, Copy, Debug, PartialEq, Eq)]
+pub struct Name {
+    /// How many of the bytes the name has.
+    pub len: u8,
+    /// The bytes, and zeros.
+    pub bytes: [u8; 32],
+}
+
+/// A factor times the value of a variable. Source: own.
+#[derive(Clone, Copy, Debug, PartialEq, Eq)]
+pub struct Term {
+    /// The factor.
+    pub factor: i32,
+    /// The variable's number in the query, from 0.
+    pub var: u8,
+}
+
+/// A linear expression: a constant plus the first `count` terms. Source: own.
+#[derive(Clone, Copy, Debug, PartialEq, Eq)]
+pub struct Expr {
+    /// The constant.
+    pub constant: i64,
+    /// How many of the terms count.
+    pub count: u8,
+    /// The terms, and behind them terms of factor 0.
+    pub terms: [Term; 8],
+}
+
+/// How one number has to stand to another. Source: own.
+#[derive(Clone, Copy, Debug, PartialEq, Eq)]
+pub enum Compare {
+    /// At most.
+    Le,
+    /// Less.
+    Lt,
+    /// At least.
+    Ge,
+    /// Greater.
+    Gt,
+    /// Equal.
+    Eq,
+}
+
+/// What is computed of the present cells of a region. Source: own.
+#[derive(Clone, Copy, Debug, PartialEq, Eq)]
+pub enum Agg {
+    /// Their total, 0 for none.
+    Sum,
+    /// The smallest, undefined for none.
+    Min,
+    /// The largest, undefined for none.
+    Max,
+    /// How many there are.
+    Count,
+    /// Their mean, undefined for none.
+    Avg,
+}
+
+/// The number p / q. Source: own.
+#[derive(Clone, Copy, Debug, PartialEq, Eq)]
+pub struct Fraction {
+    /// The numerator.
+    pub p: i64,
+    /// The denominator, 1 at least.
+    pub q: i64,
+}
+
+/// A variable with its least and its greatest value; it has no value where `from` is above `to`. Source: own.
+#[derive(Clone, Copy, Debug, PartialEq, Eq)]
+pub struct Variable {
+    /// What the variable is called in the query and in the output.
+    pub name: Name,
+    /// The least value.
+    pub from: i32,
+    /// The greatest value.
+    pub to: i32,
+}
+
+/// A rectangle of cells that variables place: in each dimension the place where it begins and how many
+/// places long it is. A dimension that is not used begins at 0 and has length 1. Source: own.
+#[derive(Clone, Copy, Debug, PartialEq, Eq)]
+pub struct Region {
+    /// What the region is called in the query.
+    pub name: Name,
+    /// Where it begins.
+    pub at: [Expr; 3],
+    /// How long it is.
+    pub length: [Expr; 3],
+}
+
+/// What has to hold at a solution. Source: own.
+#[derive(Clone, Copy, Debug, PartialEq, Eq)]
+pub enum Constraint {
+    /// The expression stands so to a number.
+    Linear {
+        expr: Expr,
+        compare: Compare,
+        to: i64,
+    },
+    /// The region, by its number from 0, is proper, and the aggregate of its present cells stands so to a number.
+    Aggregate {
+        agg: Agg,
+        region: u8,
+        compare: Compare,
+        to: Fraction,
+    },
+}
