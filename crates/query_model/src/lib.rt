@@ -7,6 +7,7 @@
 
 pub mod expression;
 pub mod laws;
+pub mod name;
 pub mod parts;
 pub mod query;
 

@@ -1,14 +1,19 @@
--- Endings of a problem that was not loaded, and what was printed by then: nothing.
-use Rattle.std.proofs.Common.{◌≡◌, ℕ, Bool, true, if◌then◌else◌, List, [], Option, Some, None, Result, Ok, Err, OnErr, MatchOption, option_map, inl, inr, refl, sym, ap, ◌∙◌, subst}
+-- How a problem that was loaded ends, and one that was not: nothing is printed then.
+use Rattle.std.proofs.Common.{◌≡◌, ℕ, List, [], Option, Some, None, Result, Ok, Err, OnErr, MatchOption, option_map, inl, inr, refl, sym, ap, ◌∙◌, subst}
 use Rattle.std.specs.Option.{option_map_or}
 use Rattle.source_io.specs.Files.{Files, file_of, bytes_at}
-use Rattle.source_io.specs.Written.{AppendsFront, Writes}
+use Rattle.source_io.specs.Written.{appended, AppendsFront, Writes}
 use Rattle.source_io.proofs.Writing.{front_nothing}
-use Rattle.search_run.specs.Form.{query_refusal}
-use Rattle.search_run.specs.Words.{solo, is_solo, word_at}
-use Rattle.search_run.specs.Verdict.{verdict_on, text_on, command_output, whole_output}
-use Rattle.search_run.specs.Ends.{EndsAs, Prints, Says}
+use Rattle.grid_cells.specs.Cells.{array_of}
+use Rattle.grid_cells.specs.declared.cell.Cell.{Cell}
+use Rattle.array_file.specs.Stored.{stored_array}
+use Rattle.domains.specs.Points.{Point}
+use Rattle.query_model.specs.Answer.{answer}
+use Rattle.query_model.specs.Text.{lines_of, text_of}
+use Rattle.search_run.specs.Verdict.{query_on, query_verdict, query_output, verdict_on, told_text_on}
+use Rattle.search_run.specs.Ends.{EndsAs, Prints, PrintsWhole, PrintsFront, Says}
 use Rattle.search_run.specs.Problem.{LoadsProblem}
+use Rattle.search_run.specs.declared.problem.Problem.{Problem}
 use Rattle.search_run.specs.declared.ending.Ending.{Ending}
 use Rattle.search_run.specs.declared.ending.Ending.TheVariants.{Done, Usage, ArrayRefused, QueryRefused, ReadFault, WriteFault, NoMemory}
 
@@ -32,10 +37,10 @@ pub ends_unloaded : (held : Option Files) (array query : List ℕ) (e : Ending) 
 ends_unloaded held array query Done h = elim h [ ]
 ends_unloaded held array query Usage h = elim h [ ]
 ends_unloaded None array query (ArrayRefused r) h = tt
-ends_unloaded (Some files) array query (ArrayRefused r) h = ap (λ o. option_map_or ArrayRefused o (option_map_or QueryRefused (query_refusal (bytes_at files query)) Done)) h
+ends_unloaded (Some files) array query (ArrayRefused r) h = ap (λ o. option_map_or ArrayRefused o (query_verdict (query_on (bytes_at files array) (bytes_at files query)))) h
 ends_unloaded None array query (QueryRefused r) h = tt
 ends_unloaded (Some files) array query (QueryRefused r) h =
-    ap (λ o. option_map_or ArrayRefused o (option_map_or QueryRefused (query_refusal (bytes_at files query)) Done)) h.0 ∙ ap (λ o. option_map_or QueryRefused o Done) h.1
+    ap (λ o. option_map_or ArrayRefused o (query_verdict (query_on (bytes_at files array) (bytes_at files query)))) h.0 ∙ ap query_verdict h.1
 ends_unloaded held array query ReadFault h = tt
 ends_unloaded held array query WriteFault h = elim h [ ]
 ends_unloaded held array query NoMemory h = tt
@@ -45,13 +50,26 @@ pub says : {T E R : Type 0} (r : Result T E) (line piece : List ℕ) (old new : 
 says {R = R} (Ok x) line piece old new e w h = subst (λ l. Says l R old new) e (inl w)
 says {R = R} (Err x) line piece old new e w h = subst (λ l. Says l R old new) e (inr (h, w))
 
--- what `solo` prints is the whole output of words that name it
-pub prints_solo : (held : Option Files) (words : List (List ℕ)) (array query : List ℕ) (e : Ending) (old new : Option (List ℕ)) → is_solo words ≡ true → array ≡ word_at words 1 → query ≡ word_at words 2
-    → Prints e (option_map (λ files. text_on (bytes_at files array) (bytes_at files query)) held) old new → Prints e (option_map (λ files. whole_output files words) held) old new
-prints_solo None words array query e old new is is_array is_query h = h
-prints_solo (Some files) words array query e old new is is_array is_query h =
-    let named : whole_output files words ≡ text_on (bytes_at files (word_at words 1)) (bytes_at files (word_at words 2)) =
-    ap (λ (b : Bool). option_map_or (command_output files) (if b then Some (solo (word_at words 1) (word_at words 2)) else None) []) is in
-    let same : text_on (bytes_at files array) (bytes_at files query) ≡ whole_output files words =
-    (λ i. text_on (bytes_at files (is_array i)) (bytes_at files (is_query i))) ∙ sym named in
-    subst (λ bytes. Prints e (Some bytes) old new) same h
+-- what is printed of a problem that was loaded is the text of its files
+text_loaded : (held : Option Files) (array query : List ℕ) (p : Problem) (cells : List Cell) (points : List Point) → LoadsProblem (file_of held array) (file_of held query) (Ok p) → cells ≡ p.cells.items
+    → points ≡ answer (array_of p.query.rank p.shape.extents cells) p.query
+    → MatchOption (told_text_on held array query) (Unit {0}) (λ bytes. lines_of p.query points ≡ bytes)
+text_loaded None array query p cells points h same found = tt
+text_loaded (Some files) array query p cells points h same found =
+    let a = stored_array (bytes_at files array) in
+    let read = query_on (bytes_at files array) (bytes_at files query) in
+    let is_array : array_of p.query.rank p.shape.extents cells ≡ a = (λ i. array_of (h.2.0 i) p.shape.extents (same i)) ∙ h.1 in
+    let is_text : lines_of p.query points ≡ text_of a p.query = ap (lines_of p.query) (found ∙ ap (λ b. answer b p.query) is_array) in
+    is_text ∙ ap (query_output a) (sym h.2.1) ∙ ap (λ o. option_map_or (λ r. []) o (query_output a read)) (sym h.0)
+
+-- all of it, or a front of it
+pub prints_whole : (held : Option Files) (array query : List ℕ) (p : Problem) (cells : List Cell) (points : List Point) (old new : Option (List ℕ)) → LoadsProblem (file_of held array) (file_of held query) (Ok p)
+    → cells ≡ p.cells.items → points ≡ answer (array_of p.query.rank p.shape.extents cells) p.query → new ≡ appended old (lines_of p.query points) → PrintsWhole (told_text_on held array query) old new
+prints_whole None array query p cells points old new h same found written = tt
+prints_whole (Some files) array query p cells points old new h same found written = written ∙ ap (appended old) (text_loaded (Some files) array query p cells points h same found)
+
+pub prints_front : (held : Option Files) (array query : List ℕ) (p : Problem) (cells : List Cell) (points : List Point) (old new : Option (List ℕ)) → LoadsProblem (file_of held array) (file_of held query) (Ok p)
+    → cells ≡ p.cells.items → points ≡ answer (array_of p.query.rank p.shape.extents cells) p.query → AppendsFront old (lines_of p.query points) new → PrintsFront (told_text_on held array query) old new
+prints_front None array query p cells points old new h same found written = tt
+prints_front (Some files) array query p cells points old new h same found written =
+    subst (λ bytes. AppendsFront old bytes new) (text_loaded (Some files) array query p cells points h same found) written

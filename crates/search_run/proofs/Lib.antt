@@ -1,4 +1,4 @@
-pub mod Keys
-pub mod JsonBytes
+pub mod Lines
+pub mod Commands
 pub mod Endings
 pub mod Statuses

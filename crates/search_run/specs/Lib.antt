@@ -1,6 +1,3 @@
-pub mod Json
-pub mod Form
-pub mod Window
 pub mod Words
 pub mod Status
 pub mod Ends

@@ -1,10 +1,9 @@
 -- What loading an array and a query answers.
-use Rattle.std.specs.Prelude.{◌≡◌, ℕ, List, [], ◌∷◌, length, Option, Some, None, Result, Ok, Err, MatchOption, ⊤}
+use Rattle.std.specs.Prelude.{◌≡◌, ℕ, List, Option, Some, None, Result, Ok, Err, MatchOption, ⊤}
 use Rattle.grid_cells.specs.Cells.{array_of}
 use Rattle.array_file.specs.Stored.{refusal_of, stored_array}
-use Rattle.search_run.specs.Form.{stored_query, query_refusal}
-use Rattle.search_run.specs.Window.{query_of}
-use Rattle.search_run.specs.declared.window.Window.{Window}
+use Rattle.query_model.specs.declared.query.Query.{Query}
+use Rattle.query_text.specs.Walk.{walk}
 use Rattle.search_run.specs.declared.problem.Problem.{Problem}
 use Rattle.search_run.specs.declared.ending.Ending.{Ending}
 use Rattle.search_run.specs.declared.ending.Ending.TheVariants.{Done, Usage, ArrayRefused, QueryRefused, ReadFault, WriteFault, NoMemory}
@@ -13,23 +12,30 @@ use Rattle.search_run.specs.declared.ending.Ending.TheVariants.{Done, Usage, Arr
 abbrev pub IsAccepted : Option (List ℕ) → Type 0
 IsAccepted told = MatchOption told ⊤ (λ bytes. refusal_of bytes ≡ None)
 
--- the window is the query of the bytes, or the refusal is theirs, where they are told
-abbrev pub LoadsQuery : Option (List ℕ) → Result Window Ending → Type 0
-LoadsQuery told (Ok w) = MatchOption told ⊤ (λ bytes. stored_query bytes ≡ Some (query_of w))
-LoadsQuery told (Err (QueryRefused r)) = MatchOption told ⊤ (λ bytes. query_refusal bytes ≡ Some r)
-LoadsQuery told (Err ReadFault) = ⊤
-LoadsQuery told (Err NoMemory) = ⊤
-LoadsQuery told (Err Done) = ⊥
-LoadsQuery told (Err Usage) = ⊥
-LoadsQuery told (Err (ArrayRefused r)) = ⊥
-LoadsQuery told (Err WriteFault) = ⊥
+-- the query is for arrays of this rank, and it is that of the bytes, or the refusal is theirs, where they are told
+abbrev pub LoadsQuery : ℕ → Option (List ℕ) → Result Query Ending → Type 0
+LoadsQuery rank told (Ok q) = (q.rank ≡ rank) × MatchOption told ⊤ (λ bytes. walk rank bytes ≡ Ok q)
+LoadsQuery rank told (Err (QueryRefused r)) = MatchOption told ⊤ (λ bytes. walk rank bytes ≡ Err r)
+LoadsQuery rank told (Err ReadFault) = ⊤
+LoadsQuery rank told (Err NoMemory) = ⊤
+LoadsQuery rank told (Err Done) = ⊥
+LoadsQuery rank told (Err Usage) = ⊥
+LoadsQuery rank told (Err (ArrayRefused r)) = ⊥
+LoadsQuery rank told (Err WriteFault) = ⊥
+
+-- the same for arrays of the rank of an array file, where its bytes are told
+abbrev pub LoadsQueryFor : Option (List ℕ) → Option (List ℕ) → Result Query Ending → Type 0
+LoadsQueryFor array query result = MatchOption array ⊤ (λ bytes. LoadsQuery (stored_array bytes).rank query result)
+
+-- the shape and the cells are those of the array of the bytes, where they are told
+abbrev pub LoadsArray : Option (List ℕ) → Problem → Type 0
+LoadsArray told p = MatchOption told ⊤ (λ bytes. array_of (stored_array bytes).rank p.shape.extents p.cells.items ≡ stored_array bytes)
 
 -- the array and the query of the bytes, or the first refusal of the two, where they are told
 abbrev pub LoadsProblem : Option (List ℕ) → Option (List ℕ) → Result Problem Ending → Type 0
-LoadsProblem array query (Ok p) =
-    IsAccepted array × MatchOption array ⊤ (λ bytes. array_of 1 (length p.cells.items ∷ 1 ∷ 1 ∷ []) p.cells.items ≡ stored_array bytes) × LoadsQuery query (Ok p.window)
+LoadsProblem array query (Ok p) = IsAccepted array × LoadsArray array p × LoadsQueryFor array query (Ok p.query)
 LoadsProblem array query (Err (ArrayRefused r)) = MatchOption array ⊤ (λ bytes. refusal_of bytes ≡ Some r)
-LoadsProblem array query (Err (QueryRefused r)) = IsAccepted array × LoadsQuery query (Err (QueryRefused r))
+LoadsProblem array query (Err (QueryRefused r)) = IsAccepted array × LoadsQueryFor array query (Err (QueryRefused r))
 LoadsProblem array query (Err ReadFault) = ⊤
 LoadsProblem array query (Err NoMemory) = ⊤
 LoadsProblem array query (Err Done) = ⊥

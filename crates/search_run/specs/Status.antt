@@ -2,6 +2,9 @@
 use Rattle.std.specs.Prelude.{ℕ, List, [], ◌++◌, decimal, codes}
 use Rattle.grid_cells.specs.declared.refusal.LayoutRefusal.{LayoutRefusal}
 use Rattle.grid_cells.specs.declared.refusal.LayoutRefusal.TheVariants.{Short, Magic, Version, Rank, Extent, TooManyCells, ChunkExtent, ChunkTooLarge, Levels, LevelExtent, CoarseGridTooLarge, TooManyBlocks, WrongLength, NotBuilt}
+use Rattle.query_text.specs.declared.place.Place.{Place}
+use Rattle.query_text.specs.declared.refusal.QueryRefusal.{QueryRefusal}
+use Rattle.query_text.specs.declared.refusal.QueryRefusal.TheVariants.{TooLong, NotJson, Shape, UnknownKey, Number, Name, Repeated, Unbound, Dimensions, TooMany, TooLarge}
 use Rattle.search_run.specs.declared.ending.Ending.{Ending}
 use Rattle.search_run.specs.declared.ending.Ending.TheVariants.{Done, Usage, ArrayRefused, QueryRefused, ReadFault, WriteFault, NoMemory}
 
@@ -16,28 +19,46 @@ status_of WriteFault = 6
 status_of NoMemory = 7
 
 -- a refusal of an array file: its number, its name and its fields
-abbrev pub refusal_text : LayoutRefusal → List ℕ
-refusal_text (Short size) = codes "1 Short " ++ decimal size
-refusal_text Magic = codes "2 Magic"
-refusal_text (Version n) = codes "3 Version " ++ decimal n
-refusal_text (Rank n) = codes "4 Rank " ++ decimal n
-refusal_text (Extent dim) = codes "5 Extent " ++ decimal dim
-refusal_text TooManyCells = codes "6 TooManyCells"
-refusal_text (ChunkExtent dim) = codes "7 ChunkExtent " ++ decimal dim
-refusal_text ChunkTooLarge = codes "8 ChunkTooLarge"
-refusal_text (Levels n) = codes "9 Levels " ++ decimal n
-refusal_text (LevelExtent level dim) = codes "10 LevelExtent " ++ decimal level ++ codes " " ++ decimal dim
-refusal_text (CoarseGridTooLarge blocks) = codes "11 CoarseGridTooLarge " ++ decimal blocks
-refusal_text TooManyBlocks = codes "12 TooManyBlocks"
-refusal_text (WrongLength stated found) = codes "13 WrongLength " ++ decimal stated ++ codes " " ++ decimal found
-refusal_text NotBuilt = codes "14 NotBuilt"
+abbrev pub array_refusal_text : LayoutRefusal → List ℕ
+array_refusal_text (Short size) = codes "1 Short " ++ decimal size
+array_refusal_text Magic = codes "2 Magic"
+array_refusal_text (Version n) = codes "3 Version " ++ decimal n
+array_refusal_text (Rank n) = codes "4 Rank " ++ decimal n
+array_refusal_text (Extent dim) = codes "5 Extent " ++ decimal dim
+array_refusal_text TooManyCells = codes "6 TooManyCells"
+array_refusal_text (ChunkExtent dim) = codes "7 ChunkExtent " ++ decimal dim
+array_refusal_text ChunkTooLarge = codes "8 ChunkTooLarge"
+array_refusal_text (Levels n) = codes "9 Levels " ++ decimal n
+array_refusal_text (LevelExtent level dim) = codes "10 LevelExtent " ++ decimal level ++ codes " " ++ decimal dim
+array_refusal_text (CoarseGridTooLarge blocks) = codes "11 CoarseGridTooLarge " ++ decimal blocks
+array_refusal_text TooManyBlocks = codes "12 TooManyBlocks"
+array_refusal_text (WrongLength stated found) = codes "13 WrongLength " ++ decimal stated ++ codes " " ++ decimal found
+array_refusal_text NotBuilt = codes "14 NotBuilt"
+
+-- a place in a query: its four numbers, with full stops between them
+abbrev pub place_text : Place → List ℕ
+place_text p = decimal p.part ++ codes "." ++ decimal p.item ++ codes "." ++ decimal p.field ++ codes "." ++ decimal p.sub
+
+-- a refusal of a query file: its number, its name and its fields
+abbrev pub query_refusal_text : QueryRefusal → List ℕ
+query_refusal_text (TooLong size) = codes "1 TooLong " ++ decimal size
+query_refusal_text NotJson = codes "2 NotJson"
+query_refusal_text (Shape place) = codes "3 Shape " ++ place_text place
+query_refusal_text (UnknownKey place) = codes "4 UnknownKey " ++ place_text place
+query_refusal_text (Number place) = codes "5 Number " ++ place_text place
+query_refusal_text (Name place) = codes "6 Name " ++ place_text place
+query_refusal_text (Repeated place) = codes "7 Repeated " ++ place_text place
+query_refusal_text (Unbound place) = codes "8 Unbound " ++ place_text place
+query_refusal_text (Dimensions region found) = codes "9 Dimensions " ++ decimal region ++ codes " " ++ decimal found
+query_refusal_text (TooMany place) = codes "10 TooMany " ++ place_text place
+query_refusal_text TooLarge = codes "11 TooLarge"
 
 -- the line on the error stream; nothing where the output is whole
 abbrev pub message_of : Ending → List ℕ
 message_of Done = []
 message_of Usage = codes "searchlight: usage: searchlight COMMAND WORDS; commands: solo search rehearse verify pack info trial\n"
-message_of (ArrayRefused r) = codes "searchlight: array refused: " ++ refusal_text r ++ codes "\n"
-message_of (QueryRefused r) = codes "searchlight: query refused: 12 NotBuilt\n"
+message_of (ArrayRefused r) = codes "searchlight: array refused: " ++ array_refusal_text r ++ codes "\n"
+message_of (QueryRefused r) = codes "searchlight: query refused: " ++ query_refusal_text r ++ codes "\n"
 message_of ReadFault = codes "searchlight: read fault\n"
 message_of WriteFault = codes "searchlight: write fault\n"
 message_of NoMemory = codes "searchlight: no memory\n"

@@ -1,6 +1,6 @@
 //! How a command ends.
-use crate::query_refusal::QueryRefusal;
 use grid_cells::LayoutRefusal;
+use query_text::QueryRefusal;
 
 /// How a command ends: its output is whole, or what kept it from being so. Source: own.
 #[derive(Clone, Copy, Debug, PartialEq, Eq)]

@@ -5,10 +5,11 @@ ghost use Rattle.source_io.specs.Files.{file_of};
 ghost use Rattle.source_io.specs.Written.{appended, AppendsFront};
 ghost use Rattle.search_run.specs.Problem.{LoadsQuery, LoadsProblem, IsTold, IsOfReading};
 
-use crate::problem::Problem;
-use crate::query_form::{MOST_QUERY_BYTES, read_query};
-use crate::{Ending, QueryFault, QueryRefusal, Window};
+use crate::{Ending, Problem};
 use array_file::{CellsFault, HeaderFault, read_cells, read_header};
+use grid_cells::Layout;
+use query_model::Query;
+use query_text::{MOST_QUERY_BYTES, QueryFault, QueryRefusal, read_query};
 use source_io::{ByteSource, OpenFault, Shelf, read_whole};
 use std::alloc::Global;
 
@@ -29,31 +30,34 @@ fn read_all<S: ByteSource>(alloc: Global, source: &mut S) -> Result<Vec<u8>, End
     Ok(bytes)
 }
 
-/// The query that a source holds. A file that is too long is refused and not read.
-fn query_from<S: ByteSource>(alloc: Global, source: &mut S) -> Result<Window, Ending>
-    ensures query { LoadsQuery (S.bytes source.old) result }
+/// The query that a source holds, for arrays of a rank. A file that is too long is refused and not read.
+fn query_from<S: ByteSource>(alloc: Global, rank: u8, source: &mut S) -> Result<Query, Ending>
+    requires { (1 ≤ rank) × (rank ≤ 3) }
+    ensures query { LoadsQuery rank (S.bytes source.old) result }
     ensures cause { IsErrOf result Ending.ReadFault → Rose (S.faults source.old) (S.faults source.new) }
     ensures faults { S.faults source.old ≤ S.faults source.new }
 {
-    if source.size() > MOST_QUERY_BYTES as u64 {
-        return Err(Ending::QueryRefused(QueryRefusal::NotBuilt));
+    let size = source.size();
+    if size > MOST_QUERY_BYTES as u64 {
+        return Err(Ending::QueryRefused(QueryRefusal::TooLong { size }));
     }
     let bytes = match read_all(alloc, source) {
         Ok(bytes) => bytes,
         Err(ending) => return Err(ending),
     };
-    match read_query(alloc, bytes.as_slice()) {
-        Ok(window) => Ok(window),
+    match read_query(alloc, bytes.as_slice(), rank) {
+        Ok(query) => Ok(query),
         Err(QueryFault::Refused(refusal)) => Err(Ending::QueryRefused(refusal)),
         Err(QueryFault::NoMemory) => Err(Ending::NoMemory),
     }
 }
 
-/// Opens a query file, reads its query and hands the file back.
+/// Opens a query file, reads its query for arrays of a rank and hands the file back.
 #[tactic(auto, using(source_io::proofs::Writing::front_whole, source_io::proofs::Writing::front_nothing, source_io::proofs::Counting::rose_added))]
-fn load_query<F: Shelf>(alloc: Global, name: &str, shelf: &mut F) -> Result<Window, Ending>
-    requires { F.lent shelf.old < 2 ^ 32 }
-    ensures query { LoadsQuery (file_of (F.holds shelf.old) name.now) result }
+fn load_query<F: Shelf>(alloc: Global, rank: u8, name: &str, shelf: &mut F) -> Result<Query, Ending>
+    requires rank { (1 ≤ rank) × (rank ≤ 3) }
+    requires lent { F.lent shelf.old < 2 ^ 32 }
+    ensures query { LoadsQuery rank (file_of (F.holds shelf.old) name.now) result }
     ensures cause { IsErrOf result Ending.ReadFault →
         Rose (F.faults shelf.old) (F.faults shelf.new)
         ⊎ Rose (F.source_faults shelf.old) (F.source_faults shelf.new) }
@@ -69,9 +73,18 @@ fn load_query<F: Shelf>(alloc: Global, name: &str, shelf: &mut F) -> Result<Wind
         Err(OpenFault::Failed) => return Err(Ending::ReadFault),
         Err(OpenFault::NoMemory) => return Err(Ending::NoMemory),
     };
-    let query = query_from(alloc, &mut file);
+    let query = query_from(alloc, rank, &mut file);
     shelf.close(file);
     query
+}
+
+/// The rank of a layout. It is known from the form that layouts have so far.
+fn rank_of(layout: &Layout) -> u8
+    ensures rank { result ≡ layout.now.rank }
+    ensures known { (1 ≤ result) × (result ≤ 3) }
+{
+    let _line = layout.extent();
+    layout.rank()
 }
 
 /// Loads the array that an open file holds, and the query of a named one: first the header of the array,
@@ -100,12 +113,16 @@ fn load_from<F: Shelf>(
         Err(HeaderFault::Refused(refusal)) => return Err(Ending::ArrayRefused(refusal)),
         Err(HeaderFault::Read) => return Err(Ending::ReadFault),
     };
-    let window = match load_query(alloc, query, shelf) {
-        Ok(window) => window,
+    let query = match load_query(alloc, rank_of(&layout), query, shelf) {
+        Ok(query) => query,
         Err(ending) => return Err(ending),
     };
     match read_cells(alloc, &layout, array) {
-        Ok(cells) => Ok(Problem { window, cells }),
+        Ok(cells) => Ok(Problem {
+            query,
+            shape: layout.shape(),
+            cells,
+        }),
         Err(CellsFault::Read) => Err(Ending::ReadFault),
         Err(CellsFault::NoMemory) => Err(Ending::NoMemory),
     }

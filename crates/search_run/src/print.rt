@@ -1,42 +1,66 @@
 //! Solutions as lines.
-ghost use Rattle.std.specs.Prelude.{◌≡◌, ◌≤◌, ◌∷◌, [], All, length, OnErr};
+ghost use Rattle.std.specs.Prelude.{◌≡◌, ◌+◌, ◌*◌, ◌≤◌, ◌++◌, ◌==◌, if◌then◌else◌, All, length, OnErr, codes};
 ghost use Rattle.source_io.specs.Told.{Rose};
 ghost use Rattle.source_io.specs.Written.{Writes};
-ghost use Rattle.query_model.specs.Text.{line_of, lines_of};
-ghost use Rattle.search_run.specs.Window.{query_of};
+ghost use Rattle.query_model.specs.Rules.{IsVariable};
+ghost use Rattle.query_model.specs.Text.{field_of, line_of, lines_of};
 
-use crate::Window;
 use crate::line::Line;
 use domains::Point;
 use itoa::Buffer;
+use query_model::{Query, Variable};
 use source_io::{Failed, Sink, write_whole};
 
-/// The line of a solution.
-fn line(window: &Window, point: &Point) -> Line
-    requires { length point.now ≡ 1 }
-    ensures { result ≡ line_of (query_of window.now) point.now }
+/// Puts a space behind the first i fields of a line, where there are any.
+fn push_space(line: &mut Line, i: usize)
+    requires { length line.old ≤ 360 }
+    ensures text { line.new ≡ (if i == 0 then line.old else line.old ++ codes " ") }
+    ensures short { length line.new ≤ length line.old + 1 }
 {
-    let name = &window.variable.name;
-    let mut line = Line::new();
-    line.push(&name.bytes[..name.len as usize]);
+    if i != 0 {
+        line.push(b" ");
+    }
+}
+
+/// Puts a variable's name, an equals sign and its value at the end of a line.
+fn push_field(line: &mut Line, variable: &Variable, value: i32)
+    requires room { length line.old ≤ 356 }
+    requires rules { IsVariable variable.now }
+    ensures text { line.new ≡ line.old ++ field_of variable.now value }
+    ensures short { length line.new ≤ length line.old + 44 }
+{
+    line.push(variable.name.as_bytes());
     line.push(b"=");
     let mut digits = Buffer::new();
-    line.push(digits.format(point.value(0)).as_bytes());
+    line.push(digits.format(value).as_bytes());
+}
+
+/// The line of a solution.
+fn line(query: &Query, point: &Point) -> Line
+    requires { length point.now ≡ length query.now.variables }
+    ensures { result ≡ line_of query.now point.now }
+{
+    let variables = query.variables();
+    let mut line = Line::new();
+    for (i, variable) in variables.iter().enumerate() {
+        push_space(&mut line, i);
+        push_field(&mut line, variable, point.value(i as u8));
+    }
     line.push(b"\n");
     line
 }
 
 /// Prints the line of each of these solutions, in order, by one `write_whole` each. `Failed` where a
 /// write was not done, which the sink counts; a front of the lines was then written. Source: own.
-pub fn print<K: Sink>(window: &Window, points: &[Point], sink: &mut K) -> Result<(), Failed>
-    requires { All (λ p. length p ≡ 1) points.now }
-    ensures written { Writes result (lines_of (query_of window.now) points.now)
+pub fn print<K: Sink>(query: &Query, points: &[Point], sink: &mut K) -> Result<(), Failed>
+    requires { All (λ p. length p ≡ length query.now.variables) points.now }
+    ensures written { Writes result (lines_of query.now points.now)
         (K.written sink.old) (K.written sink.new) }
     ensures cause { OnErr result (Rose (K.faults sink.old) (K.faults sink.new)) }
     ensures faults { K.faults sink.old ≤ K.faults sink.new }
 {
     for point in points {
-        let line = line(window, point);
+        let line = line(query, point);
         write_whole(sink, line.as_bytes())?;
     }
     Ok(())

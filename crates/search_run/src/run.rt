@@ -1,9 +1,9 @@
 //! The top call.
-ghost use Rattle.std.specs.Prelude.{◌≡◌, ◌<◌, ◌≤◌, ◌^◌, ◌⊎◌, ◌↔◌, None};
+ghost use Rattle.std.specs.Prelude.{◌≡◌, ◌<◌, ◌≤◌, ◌^◌, ◌⊎◌, ◌↔◌, ◌||◌, None, codes};
 ghost use Rattle.source_io.specs.Told.{Rose};
 ghost use Rattle.source_io.specs.Written.{appended, AppendsFront};
 ghost use Rattle.search_run.specs.Words as meaning;
-ghost use Rattle.search_run.specs.Words.{command_in};
+ghost use Rattle.search_run.specs.Words.{is_call, command_in};
 ghost use Rattle.search_run.specs.Verdict.{texts_of, told_verdict, told_output, openings};
 ghost use Rattle.search_run.specs.Ends.{
   EndsAs,
@@ -16,7 +16,7 @@ ghost use Rattle.search_run.specs.Ends.{
 };
 
 use crate::Ending;
-use crate::solo::solo;
+use crate::plain::list_solutions;
 use crate::status::report;
 use source_io::{Shelf, Sink};
 use std::alloc::Global;
@@ -28,14 +28,21 @@ fn is_option(word: &str) -> bool
     word.as_bytes().starts_with(b"-")
 }
 
-/// Whether the words are `solo` and two words that are no options.
-fn is_solo(words: &[String]) -> bool
-    ensures { result ≡ meaning.is_solo (texts_of words.now) }
+/// Whether the words are the name of a command and two words that are no options.
+fn is_call(name: &str, words: &[String]) -> bool
+    ensures { result ≡ meaning.is_call name.now (texts_of words.now) }
 {
     words.len() == 3
-        && words[0].as_str() == "solo"
+        && words[0].as_str() == name
         && !is_option(words[1].as_str())
         && !is_option(words[2].as_str())
+}
+
+/// Whether the words name a command that lists the solutions by plain enumeration.
+fn lists_plainly(words: &[String]) -> bool
+    ensures { result ≡ (is_call (codes "solo") (texts_of words.now) || is_call (codes "verify") (texts_of words.now)) }
+{
+    is_call("solo", words) || is_call("verify", words)
 }
 
 /// Runs the command that the words name, and answers how it ended. It says nothing on the error stream.
@@ -56,8 +63,8 @@ fn run<F: Shelf, O: Sink>(alloc: Global, words: &[String], shelf: &mut F, out: &
     ensures lent { F.lent shelf.new ≡ F.lent shelf.old }
     ensures holds { F.holds shelf.new ≡ F.holds shelf.old }
 {
-    if is_solo(words) {
-        solo(alloc, words[1].as_str(), words[2].as_str(), shelf, out)
+    if lists_plainly(words) {
+        list_solutions(alloc, words[1].as_str(), words[2].as_str(), shelf, out)
     } else {
         Ending::Usage
     }

@@ -8,10 +8,14 @@ use std::test::Fail;
 
 mod faults;
 mod forms;
+mod windows;
 
 /// One dimension of 8 cells in one chunk with one level of one block: 3 -1 4 1 . 5 9 2.
 const EIGHT_CELLS: &[u8; 128] =
     b"SEARCHLIGHT\n\x01\0\0\0\x01\0\0\0\x08\0\0\0\x01\0\0\0\x01\0\0\0\x08\0\0\0\x01\0\0\0\x01\0\0\0\x01\0\0\0\x08\0\0\0\x01\0\0\0\x01\0\0\0\0\0\0\0\0\0\0\0\0\0\0\0\0\0\0\0\0\0\0\0\0\0\0\0\0\0\0\0\0\0\0\0\0\0\0\0\x03\0\0\0\xff\xff\xff\xff\x04\0\0\0\x01\0\0\0\0\0\0\x80\x05\0\0\0\x09\0\0\0\x02\0\0\0";
+
+/// The commands that list all solutions, each on the files `a` and `q`.
+const LISTINGS: [&str; 2] = ["solo a q", "verify a q"];
 
 /// The windows of two cells whose sum is at least 9: those at 5 and 6, with the sums 14 and 11.
 const AT_LEAST_NINE: &str =
@@ -23,8 +27,6 @@ const USAGE: &[u8; 101] =
     b"searchlight: usage: searchlight COMMAND WORDS; commands: solo search rehearse verify pack info trial\n";
 
 const ARRAY_REFUSED: &[u8; 40] = b"searchlight: array refused: 14 NotBuilt\n";
-
-const QUERY_REFUSED: &[u8; 40] = b"searchlight: query refused: 12 NotBuilt\n";
 
 const READ_FAULT: &[u8; 24] = b"searchlight: read fault\n";
 
@@ -72,6 +74,17 @@ impl Ran {
         (self.status, self.out.as_bytes(), self.err.as_bytes())
     }
 
+    /// Whether the query was refused so, and nothing was printed.
+    fn refused(&self, refusal: &str) -> bool {
+        let said = self.err.as_bytes();
+        let Some(text) = said.strip_prefix(b"searchlight: query refused: ".as_slice()) else {
+            return false;
+        };
+        self.status == 4
+            && self.out.as_bytes().is_empty()
+            && text.strip_suffix(b"\n".as_slice()) == Some(refusal.as_bytes())
+    }
+
     /// Whether it printed this text, and that was the whole output.
     fn printed(&self, text: &str) -> bool {
         self.status == 0 && self.out.as_bytes() == text.as_bytes() && self.err.as_bytes().is_empty()
@@ -101,10 +114,35 @@ fn run_line(
     })
 }
 
+/// Runs the words of a line on such files where nothing fails.
+fn run_calm(alloc: Global, line: &str, array: &[u8], query: &str) -> Result<Ran, Fail> {
+    let shelf = shelf_of(alloc, array, query, Plan::calm(alloc, 100))?;
+    run_line(alloc, line, shelf, 0, Vec::new(alloc))
+}
+
 /// Runs `solo a q` on such files where nothing fails.
 fn solo(alloc: Global, array: &[u8], query: &str) -> Result<Ran, Fail> {
-    let shelf = shelf_of(alloc, array, query, Plan::calm(alloc, 100))?;
-    run_line(alloc, "solo a q", shelf, 0, Vec::new(alloc))
+    run_calm(alloc, "solo a q", array, query)
+}
+
+/// The eight cells with this many bytes, of which further ones are 0, and with these bytes in these places.
+fn changed_array(alloc: Global, size: usize, edits: &[(usize, u8)]) -> Result<Vec<u8>, AllocError> {
+    let mut bytes = Vec::from_slice(alloc, EIGHT_CELLS)?;
+    bytes.resize(size, 0)?;
+    for (at, byte) in edits {
+        if let Some(place) = bytes.as_mut_slice().get_mut(*at) {
+            *place = *byte;
+        }
+    }
+    Ok(bytes)
+}
+
+/// A query with one text in place of another, which stands in it.
+fn changed_query(alloc: Global, query: &str, old: &str, new: &str) -> Result<String, Fail> {
+    let (before, after) = query
+        .split_once(old)
+        .ok_or("the text does not stand in the query")?;
+    Ok(format!(in alloc; "{before}{new}{after}")?)
 }
 
 #[test]
@@ -125,6 +163,11 @@ fn words_that_are_not_read_give_usage(rt: HostRuntime) -> Result<(), Fail> {
         "search a q",
         "solo -a q",
         "solo a --q",
+        "verify",
+        "verify a",
+        "verify a q q",
+        "verify -a q",
+        "verify a --q",
     ];
     for line in lines {
         let plan = Plan::calm(rt.alloc(), 100);

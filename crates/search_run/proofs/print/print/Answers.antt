@@ -3,7 +3,6 @@ use Rattle.std.proofs.lemmas.Result.{MatchResult-from_err}
 use Rattle.source_io.specs.Written.{appended, AppendsFront}
 use Rattle.source_io.proofs.Writing.{pieces_more, pieces_front}
 use Rattle.query_model.specs.Text.{line_of}
-use Rattle.search_run.specs.Window.{query_of}
 use Rattle.search_run.proofs.print.print.Goals as goal
 
 pub loop-point-preserved : goal.loop-point-preserved
@@ -11,7 +10,7 @@ loop-point-preserved g c =
     let written = g.K.Sink.written in
     let line = c.as_bytes.ensures ∙ c.line-line.ensures in
     record {
-      written = pieces_more (line_of (query_of c.args.window.now)) c.args.points.now c.loop-point.point-index c.point-item.result c.loop-point-test.true c.point-item.is
+      written = pieces_more (line_of c.args.query.now) c.args.points.now c.loop-point.point-index c.point-item.result c.loop-point-test.true c.point-item.is
           (written c.args.sink.now) (written c.loop-point.sink) (written c.write_whole.new.sink) c.loop-point.invariant.written
           (c.in_ok-write_whole.ensures.written ∙ ap (appended (written c.loop-point.sink)) line);
       faults = omega (arith, c.loop-point.invariant.faults, c.write_whole.ensures.faults);
@@ -22,6 +21,6 @@ returns-in_err-write_whole-clause-written g c =
     let written = g.K.Sink.written in
     let line = c.as_bytes.ensures ∙ c.line-line.ensures in
     MatchResult-from_err c.from_residual.result _ _ c.from_residual.ensures.0
-    (λ _. pieces_front (line_of (query_of c.args.window.now)) c.args.points.now c.loop-point.point-index c.point-item.result c.loop-point-test.true c.point-item.is
+    (λ _. pieces_front (line_of c.args.query.now) c.args.points.now c.loop-point.point-index c.point-item.result c.loop-point-test.true c.point-item.is
     (written c.args.sink.now) (written c.loop-point.sink) (written c.write_whole.new.sink) c.loop-point.invariant.written
     (subst (λ l. AppendsFront (written c.loop-point.sink) l (written c.write_whole.new.sink)) line c.in_err-write_whole.ensures.written))

@@ -1,18 +1,6 @@
-//! Arrays and queries that differ in one thing from the form that is read.
+//! Arrays and queries that differ in one thing from some that are answered.
 
 use super::*;
-
-/// The eight cells with this many bytes, of which further ones are 0, and with these bytes in these places.
-fn changed_array(alloc: Global, size: usize, edits: &[(usize, u8)]) -> Result<Vec<u8>, AllocError> {
-    let mut bytes = Vec::from_slice(alloc, EIGHT_CELLS)?;
-    bytes.resize(size, 0)?;
-    for (at, byte) in edits {
-        if let Some(place) = bytes.as_mut_slice().get_mut(*at) {
-            *place = *byte;
-        }
-    }
-    Ok(bytes)
-}
 
 #[test]
 fn an_array_that_differs_in_one_thing_is_refused(rt: HostRuntime) -> Result<(), Fail> {
@@ -65,108 +53,86 @@ fn the_longest_line_is_read(rt: HostRuntime) -> Result<(), Fail> {
     Ok(())
 }
 
-/// The query for windows of two cells with one text in place of another, which stands in it.
-fn changed_query(alloc: Global, old: &str, new: &str) -> Result<String, Fail> {
-    let (before, after) = AT_LEAST_NINE
-        .split_once(old)
-        .ok_or("the text does not stand in the query")?;
-    Ok(format!(in alloc; "{before}{new}{after}")?)
-}
-
 #[test]
 fn a_query_that_differs_in_one_thing_is_refused(rt: HostRuntime) -> Result<(), Fail> {
     let cases = [
-        ("{\"variables\"", "{\"limit\":1,\"variables\""),
-        ("{\"name\":\"x\"", "{\"step\":1,\"name\":\"x\""),
-        ("{\"name\":\"r\"", "{\"step\":1,\"name\":\"r\""),
-        ("{\"agg\"", "{\"expr\":\"x\",\"agg\""),
-        ("\"variables\":[{\"name\":\"x\",\"from\":0,\"to\":7}],", ""),
+        (
+            "{\"name\":\"x\"",
+            "{\"step\":1,\"name\":\"x\"",
+            "4 UnknownKey 1.1.0.0",
+        ),
+        (
+            "{\"name\":\"r\"",
+            "{\"step\":1,\"name\":\"r\"",
+            "4 UnknownKey 2.1.0.0",
+        ),
+        ("{\"agg\"", "{\"expr\":\"x\",\"agg\"", "3 Shape 3.1.3.0"),
+        (
+            "\"variables\":[{\"name\":\"x\",\"from\":0,\"to\":7}],",
+            "",
+            "3 Shape 1.0.0.0",
+        ),
         (
             "\"regions\":[{\"name\":\"r\",\"at\":[\"x\"],\"length\":[2]}],",
             "",
+            "8 Unbound 3.1.2.0",
         ),
-        (
-            ",\"constraints\":[{\"agg\":\"sum\",\"of\":\"r\",\"cmp\":\"ge\",\"to\":9}]",
-            "",
-        ),
-        ("\"name\":\"x\",", ""),
-        ("\"from\":0,", ""),
-        (",\"to\":7", ""),
-        ("\"name\":\"r\",", ""),
-        ("\"at\":[\"x\"],", ""),
-        (",\"length\":[2]", ""),
-        ("\"agg\":\"sum\",", ""),
-        ("\"of\":\"r\",", ""),
-        ("\"cmp\":\"ge\",", ""),
-        (",\"to\":9", ""),
-        (
-            "\"to\":7}",
-            "\"to\":7},{\"name\":\"y\",\"from\":0,\"to\":7}",
-        ),
-        (
-            "[2]}",
-            "[2]},{\"name\":\"s\",\"at\":[\"x\"],\"length\":[2]}",
-        ),
-        (
-            "[{\"agg\"",
-            "[{\"agg\":\"sum\",\"of\":\"r\",\"cmp\":\"ge\",\"to\":0},{\"agg\"",
-        ),
+        ("\"name\":\"x\",", "", "3 Shape 1.1.1.0"),
+        ("\"from\":0,", "", "3 Shape 1.1.2.0"),
+        (",\"to\":7", "", "3 Shape 1.1.3.0"),
+        ("\"name\":\"r\",", "", "3 Shape 2.1.1.0"),
+        ("\"at\":[\"x\"],", "", "3 Shape 2.1.2.0"),
+        (",\"length\":[2]", "", "3 Shape 2.1.3.0"),
+        ("\"agg\":\"sum\",", "", "3 Shape 3.1.2.0"),
+        ("\"of\":\"r\",", "", "3 Shape 3.1.2.0"),
+        ("\"cmp\":\"ge\",", "", "3 Shape 3.1.4.0"),
+        (",\"to\":9", "", "3 Shape 3.1.5.0"),
         (
             "\"variables\":[{\"name\":\"x\",\"from\":0,\"to\":7}]",
             "\"variables\":[]",
+            "3 Shape 1.0.0.0",
         ),
-        ("[\"x\"]", "[\"x\",\"x\"]"),
-        ("[\"x\"]", "[]"),
-        ("[\"x\"]", "\"x\""),
-        ("[\"x\"]", "[\"y\"]"),
-        ("[2]", "[[1,\"x\"]]"),
-        ("\"from\":0", "\"from\":1.0"),
-        ("\"from\":0", "\"from\":\"0\""),
-        ("\"from\":0", "\"from\":-1048577"),
-        ("\"to\":7", "\"to\":1048577"),
-        ("[2]", "[2147483649]"),
-        ("[2]", "[-2147483649]"),
-        ("\"to\":9", "\"to\":9.0"),
-        ("\"to\":9", "\"to\":4503599627370497"),
-        ("\"to\":9", "\"to\":-4503599627370497"),
-        ("\"x\"", "\"1\""),
-        ("\"x\"", "\"\""),
-        ("\"x\"", "\"a23456789012345678901234567890123\""),
-        ("\"x\"", "\"x-y\""),
-        ("\"of\":\"r\"", "\"of\":\"s\""),
-        ("\"sum\"", "\"count\""),
-        ("\"ge\"", "\"le\""),
-        ("\"ge\"", "\"gt\""),
+        ("[\"x\"]", "[]", "9 Dimensions 1 0"),
+        ("[\"x\"]", "\"x\"", "3 Shape 2.1.2.0"),
+        ("[\"x\"]", "[\"y\"]", "8 Unbound 2.1.2.1"),
+        ("\"from\":0", "\"from\":1.0", "5 Number 1.1.2.0"),
+        ("\"from\":0", "\"from\":\"0\"", "3 Shape 1.1.2.0"),
+        ("\"from\":0", "\"from\":-1048577", "5 Number 1.1.2.0"),
+        ("\"to\":7", "\"to\":1048577", "5 Number 1.1.3.0"),
+        ("[2]", "[2147483649]", "5 Number 2.1.3.1"),
+        ("[2]", "[-2147483649]", "5 Number 2.1.3.1"),
+        ("\"to\":9", "\"to\":9.0", "5 Number 3.1.5.0"),
+        ("\"to\":9", "\"to\":4503599627370497", "5 Number 3.1.5.0"),
+        ("\"to\":9", "\"to\":-4503599627370497", "5 Number 3.1.5.0"),
+        ("\"x\"", "\"1\"", "6 Name 1.1.1.0"),
+        ("\"x\"", "\"\"", "6 Name 1.1.1.0"),
+        (
+            "\"x\"",
+            "\"a23456789012345678901234567890123\"",
+            "6 Name 1.1.1.0",
+        ),
+        ("\"x\"", "\"x-y\"", "6 Name 1.1.1.0"),
     ];
-    for (old, new) in cases {
-        let query = changed_query(rt.alloc(), old, new)?;
+    for (old, new, refusal) in cases {
+        let query = changed_query(rt.alloc(), AT_LEAST_NINE, old, new)?;
         let ran = solo(rt.alloc(), EIGHT_CELLS, query.as_str())?;
-        assert_eq!(rt;
-            ran.shows(),
-            (4, b"".as_slice(), QUERY_REFUSED.as_slice()),
-            "{new} for {old}"
-        );
+        assert!(rt; ran.refused(refusal), "{new} for {old}");
     }
     Ok(())
 }
 
 #[test]
 fn what_is_no_query_at_all_is_refused(rt: HostRuntime) -> Result<(), Fail> {
-    for query in [
-        "",
-        "[]",
-        "{}",
-        "7",
-        "null",
-        "{\"variables\"",
-        "\"variables\"",
+    for (query, refusal) in [
+        ("", "2 NotJson"),
+        ("{\"variables\"", "2 NotJson"),
+        ("7", "3 Shape 0.0.0.0"),
+        ("null", "3 Shape 0.0.0.0"),
+        ("\"variables\"", "3 Shape 0.0.0.0"),
+        ("{}", "3 Shape 1.0.0.0"),
     ] {
         let ran = solo(rt.alloc(), EIGHT_CELLS, query)?;
-        assert_eq!(rt;
-            ran.shows(),
-            (4, b"".as_slice(), QUERY_REFUSED.as_slice()),
-            "{query}"
-        );
+        assert!(rt; ran.refused(refusal), "{query}");
         assert_eq!(rt;
             (ran.shelf.lent(), ran.shelf.opened().len()),
             (0, 2),
@@ -201,7 +167,7 @@ fn the_longest_query_is_read(rt: HostRuntime) -> Result<(), Fail> {
 fn a_longer_query_is_refused_unread(rt: HostRuntime) -> Result<(), Fail> {
     let query = behind_spaces(rt.alloc(), MOST_SPACES + 1)?;
     let ran = solo(rt.alloc(), EIGHT_CELLS, query.as_str())?;
-    assert_eq!(rt; ran.shows(), (4, b"".as_slice(), QUERY_REFUSED.as_slice()));
+    assert!(rt; ran.refused("1 TooLong 1048577"));
     let reads = ran
         .shelf
         .returned()
@@ -212,7 +178,7 @@ fn a_longer_query_is_refused_unread(rt: HostRuntime) -> Result<(), Fail> {
 }
 
 #[test]
-fn each_query_of_the_form_is_answered(rt: HostRuntime) -> Result<(), Fail> {
+fn a_query_that_differs_in_one_thing_is_answered(rt: HostRuntime) -> Result<(), Fail> {
     let cases = [
         ("\"from\":0,\"to\":7", "\"from\":5,\"to\":2", ""),
         ("\"from\":0", "\"from\":-1048576", "x=5\nx=6\n"),
@@ -234,9 +200,28 @@ fn each_query_of_the_form_is_answered(rt: HostRuntime) -> Result<(), Fail> {
             "x=0\nx=1\nx=2\nx=3\nx=4\nx=5\nx=6\n",
         ),
         ("\"to\":9", "\"to\":9,\"to\":12", "x=5\n"),
+        ("\"ge\"", "\"le\"", "x=0\nx=1\nx=2\nx=3\nx=4\n"),
+        ("\"ge\"", "\"gt\"", "x=5\nx=6\n"),
+        ("\"sum\"", "\"count\"", ""),
+        ("[2]", "[[1,\"x\"]]", "x=3\n"),
+        (
+            "[2]}",
+            "[2]},{\"name\":\"s\",\"at\":[0],\"length\":[9]}",
+            "x=5\nx=6\n",
+        ),
+        (
+            "[{\"agg\"",
+            "[{\"agg\":\"sum\",\"of\":\"r\",\"cmp\":\"le\",\"to\":11},{\"agg\"",
+            "x=6\n",
+        ),
+        (
+            ",\"constraints\":[{\"agg\":\"sum\",\"of\":\"r\",\"cmp\":\"ge\",\"to\":9}]",
+            "",
+            "x=0\nx=1\nx=2\nx=3\nx=4\nx=5\nx=6\nx=7\n",
+        ),
     ];
     for (old, new, out) in cases {
-        let query = changed_query(rt.alloc(), old, new)?;
+        let query = changed_query(rt.alloc(), AT_LEAST_NINE, old, new)?;
         let ran = solo(rt.alloc(), EIGHT_CELLS, query.as_str())?;
         assert!(rt; ran.printed(out), "{new} for {old}");
     }

@@ -1,0 +1,9 @@
+pub mod Places
+pub mod Json
+pub mod Sums
+pub mod Named
+pub mod Walk
+pub mod Reads
+pub mod Form
+pub mod Lists
+pub mod Limits

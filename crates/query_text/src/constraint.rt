@@ -1,0 +1,223 @@
+//! Constraints.
+ghost use Rattle.std.specs.Prelude.{◌≡◌, ◌≤◌, ◌<◌, ◌^◌, length, map, option_map, All, IfOk};
+ghost use Rattle.query_model.specs.declared.parts.Agg.{Agg};
+ghost use Rattle.query_model.specs.Rules.{IsFraction, IsWhole, IsConstraint};
+ghost use Rattle.serde_json.specs.View.{view};
+ghost use Rattle.query_text.specs.Reads.{Gives};
+ghost use Rattle.query_text.specs.Walk as walk;
+
+use crate::expression::read_expr;
+use crate::json_parts::{items_in, numbers_of};
+use crate::keys::read_object;
+use crate::named::{agg_named, compare_named, region_named};
+use crate::names::read_text;
+use crate::number::{read_number, read_whole, whole_between};
+use crate::{Place, QueryFault, QueryRefusal};
+use query_model::{Agg, Compare, Constraint, Fraction, Region, Variable};
+use serde_json::Value;
+use std::alloc::Global;
+
+/// How far the number of an aggregate constraint is from 0 at most.
+const MOST_AGGREGATE: u64 = 4503599627370496;
+
+/// How far the number of a linear constraint is from 0 at most.
+const MOST_LINEAR: u64 = 2147483648;
+
+/// How large the lower number of a fraction is at most.
+const MOST_DENOMINATOR: i64 = 1048576;
+
+/// The aggregate that a value names, or what is wrong.
+fn read_agg(value: &Value, at: Place) -> Result<Agg, QueryRefusal>
+    ensures { result ≡ walk.walk_agg at (view value.now) }
+{
+    let text = read_text(Some(value), at)?;
+    match agg_named(text) {
+        Some(agg) => Ok(agg),
+        None => Err(QueryRefusal::Name { place: at }),
+    }
+}
+
+/// The number of the region that a value names, or what is wrong.
+fn read_region_name(
+    regions: &[Region],
+    at: Place,
+    found: Option<&Value>,
+) -> Result<u8, QueryRefusal>
+    requires { length regions.now ≤ 16 }
+    ensures walk { result ≡ walk.walk_region_name regions.now at (option_map (λ v. view v.now) found.entry) }
+    ensures among { IfOk result (λ r. r < length regions.now) }
+{
+    let text = read_text(found, at)?;
+    match region_named(text, regions) {
+        Some(region) => Ok(region as u8),
+        None => Err(QueryRefusal::Unbound { place: at }),
+    }
+}
+
+/// The comparison that a value names, or what is wrong.
+fn read_compare(found: Option<&Value>, at: Place) -> Result<Compare, QueryRefusal>
+    ensures { result ≡ walk.walk_compare at (option_map (λ v. view v.now) found.entry) }
+{
+    let text = read_text(found, at)?;
+    match compare_named(text) {
+        Some(compare) => Ok(compare),
+        None => Err(QueryRefusal::Name { place: at }),
+    }
+}
+
+/// The fraction of these two values, or what is wrong.
+#[tactic(auto, unfolding(crate::specs::Walk::walk_pair))]
+fn read_pair(items: &[Value], at: Place) -> Result<Fraction, QueryRefusal>
+    ensures walk { result ≡ walk.walk_pair at (map view items.now) }
+    ensures rules { IfOk result (IsFraction (IsWhole Agg.Avg)) }
+{
+    let Some((upper, lower)) = numbers_of(items) else {
+        return Err(QueryRefusal::Shape { place: at });
+    };
+    let p = read_whole(upper, MOST_AGGREGATE, at)?;
+    match whole_between(1, MOST_DENOMINATOR, lower) {
+        Some(q) => Ok(Fraction { p, q }),
+        None => Err(QueryRefusal::Number { place: at }),
+    }
+}
+
+/// The whole number at a place as a fraction, or what is wrong.
+fn read_whole_fraction(found: Option<&Value>, at: Place) -> Result<Fraction, QueryRefusal>
+    ensures walk { result ≡ walk.walk_whole_fraction at (option_map (λ v. view v.now) found.entry) }
+    ensures rules { (agg : Agg) → IfOk result (IsFraction (IsWhole agg)) }
+{
+    let p = read_number(found, MOST_AGGREGATE, at)?;
+    Ok(Fraction { p, q: 1 })
+}
+
+/// What an average is compared with: a whole number or a fraction, or what is wrong.
+fn read_average(found: Option<&Value>, at: Place) -> Result<Fraction, QueryRefusal>
+    ensures walk { result ≡ walk.walk_average at (option_map (λ v. view v.now) found.entry) }
+    ensures rules { IfOk result (IsFraction (IsWhole Agg.Avg)) }
+{
+    if let Some(value) = found
+        && let Some(items) = items_in(value)
+    {
+        return read_pair(items, at);
+    }
+    read_whole_fraction(found, at)
+}
+
+/// What an aggregate is compared with, or what is wrong.
+#[tactic(auto, unfolding(crate::specs::Walk::walk_fraction))]
+fn read_fraction(agg: Agg, found: Option<&Value>, at: Place) -> Result<Fraction, QueryRefusal>
+    ensures walk { result ≡ walk.walk_fraction agg at (option_map (λ v. view v.now) found.entry) }
+    ensures rules { IfOk result (IsFraction (IsWhole agg)) }
+{
+    match agg {
+        Agg::Avg => read_average(found, at),
+        Agg::Sum | Agg::Min | Agg::Max | Agg::Count => read_whole_fraction(found, at),
+    }
+}
+
+/// The constraint on an aggregate that a value stands for, or what is wrong.
+#[tactic(auto, unfolding(crate::specs::Walk::walk_aggregate))]
+fn read_aggregate(
+    variables: &[Variable],
+    regions: &[Region],
+    i: u32,
+    agg: &Value,
+    value: &Value,
+) -> Result<Constraint, QueryRefusal>
+    requires { length regions.now ≤ 16 }
+    ensures walk { result ≡ walk.walk_aggregate regions.now i (view agg.now) (view value.now) }
+    ensures rules { IfOk result (IsConstraint (length variables.now) (length regions.now)) }
+{
+    if value.get("expr").is_some() {
+        return Err(QueryRefusal::Shape {
+            place: Place::constraint_expr(i),
+        });
+    }
+    let agg = read_agg(agg, Place::constraint_agg(i))?;
+    let region = read_region_name(regions, Place::constraint_of(i), value.get("of"))?;
+    let compare = read_compare(value.get("cmp"), Place::constraint_cmp(i))?;
+    let to = read_fraction(agg, value.get("to"), Place::constraint_to(i))?;
+    Ok(Constraint::Aggregate {
+        agg,
+        region,
+        compare,
+        to,
+    })
+}
+
+/// The linear constraint that a value stands for, or what is wrong.
+#[tactic(auto, unfolding(crate::specs::Walk::walk_linear))]
+fn read_linear(
+    variables: &[Variable],
+    regions: &[Region],
+    i: u32,
+    value: &Value,
+) -> Result<Constraint, QueryRefusal>
+    requires { length variables.now ≤ 8 }
+    ensures walk { result ≡ walk.walk_linear variables.now i (view value.now) }
+    ensures rules { IfOk result (IsConstraint (length variables.now) (length regions.now)) }
+{
+    if value.get("of").is_some() {
+        return Err(QueryRefusal::Shape {
+            place: Place::constraint_of(i),
+        });
+    }
+    let Some(found) = value.get("expr") else {
+        return Err(QueryRefusal::Shape {
+            place: Place::constraint_expr(i),
+        });
+    };
+    let expr = read_expr(variables, found, Place::constraint_expr(i))?;
+    let compare = read_compare(value.get("cmp"), Place::constraint_cmp(i))?;
+    let to = read_number(value.get("to"), MOST_LINEAR, Place::constraint_to(i))?;
+    Ok(Constraint::Linear { expr, compare, to })
+}
+
+/// The i-th constraint, which a value stands for, or what is wrong.
+#[tactic(auto, unfolding(crate::specs::Walk::walk_constraint))]
+fn read_constraint(
+    variables: &[Variable],
+    regions: &[Region],
+    i: u32,
+    value: &Value,
+) -> Result<Constraint, QueryRefusal>
+    requires variables { length variables.now ≤ 8 }
+    requires regions { length regions.now ≤ 16 }
+    ensures walk { result ≡ walk.walk_constraint variables.now regions.now i (view value.now) }
+    ensures rules { IfOk result (IsConstraint (length variables.now) (length regions.now)) }
+{
+    read_object(
+        value,
+        &["agg", "of", "expr", "cmp", "to"],
+        Place::constraint(i),
+    )?;
+    match value.get("agg") {
+        Some(agg) => read_aggregate(variables, regions, i, agg, value),
+        None => read_linear(variables, regions, i, value),
+    }
+}
+
+/// The constraints that these values stand for, or what is wrong. Source: own.
+pub fn read_constraints(
+    alloc: Global,
+    variables: &[Variable],
+    regions: &[Region],
+    items: &[Value],
+) -> Result<Vec<Constraint>, QueryFault>
+    requires variables { length variables.now ≤ 8 }
+    requires regions { length regions.now ≤ 16 }
+    requires items { length items.now ≤ 64 }
+    ensures walk { Gives (λ v. v.items)
+        (walk.walk_constraints variables.now regions.now (map view items.now)) result }
+    ensures count { IfOk result (λ v. length v.items ≡ length items.now) }
+    ensures rules { IfOk result
+        (λ v. All (IsConstraint (length variables.now) (length regions.now)) v.items) }
+{
+    let mut constraints = Vec::new(alloc);
+    for item in items {
+        let i = constraints.len() as u32 + 1;
+        let constraint = read_constraint(variables, regions, i, item)?;
+        constraints.push(constraint)?;
+    }
+    Ok(constraints)
+}
