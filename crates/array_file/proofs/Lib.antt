@@ -1,5 +1,7 @@
 pub mod Rules
+pub mod Numbers
+pub mod Layouts
+pub mod Headers
 pub mod Lines
-pub mod Accepted
 pub mod Told
 pub mod Placed

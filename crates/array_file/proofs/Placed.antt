@@ -11,9 +11,9 @@ use Rattle.byteorder.specs.Numbers.{little_from-append}
 use Rattle.source_io.specs.Told.{Holds}
 use Rattle.grid_cells.specs.Numbers.{product}
 use Rattle.grid_cells.specs.Cells.{cell_value}
-use Rattle.grid_cells.specs.LayoutParts.{LayoutParts, line_layout, chunk_cells}
-use Rattle.grid_cells.proofs.Lines.{chunk_of-line, place_in_chunk-line}
+use Rattle.grid_cells.specs.LayoutParts.{LayoutParts, line_layout}
 use Rattle.grid_cells.specs.declared.cell.Cell.{Cell}
+use Rattle.array_file.proofs.Lines.{cell_start-line}
 use Rattle.array_file.specs.Stored.{cell_at, cell_start, stored_cells, HoldsCells, MakesArray}
 
 -- ---- lists
@@ -44,13 +44,6 @@ cell_at-part all from n at inside short =
     ap cell (number_at-take (drop from all) n at inside short ∙ ap (little_number 4) (drop-drop at from all))
 
 -- ---- the cells of a line
-
--- they stand one after the other behind the header
-cell_start-line : (n k : ℕ) → k < n → cell_start (line_layout n) k ≡ 96 + 4 * k
-cell_start-line n k below =
-    let chunk = chunk_of-line n k below in
-    let place = place_in_chunk-line n k below in
-    (λ i. 96 + 4 * chunk_cells (line_layout n) * chunk i + 4 * place i) ∙ omega arith
 
 pub length-line : (n : ℕ) (bytes : List ℕ) (cells : List Cell) → cells ≡ map (λ k. cell_at bytes (4 * k)) (range_with_len 0 n) → length cells ≡ n
 length-line n bytes cells e = ap length e ∙ length-map-range_with_len (λ k. cell_at bytes (4 * k)) 0 n

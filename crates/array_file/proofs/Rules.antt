@@ -1,22 +1,14 @@
--- What it means that no rule is broken.
-use Rattle.std.proofs.Common.{◌≡◌, Bool, true, false, List, [], ◌∷◌, Some, is_none, if◌then◌else◌, refl}
+-- One rule before others.
+use Rattle.std.proofs.Common.{◌≡◌, Bool, true, false, List, ◌∷◌, Some, refl}
 use Rattle.grid_cells.specs.Rules.{Rule, first_broken}
 use Rattle.grid_cells.specs.declared.refusal.LayoutRefusal.{LayoutRefusal}
 
--- each of these rules is kept
-abbrev pub AllKept : List Rule → Type 0
-AllKept [] = Unit {0}
-AllKept (r ∷ rs) = (r.0 ≡ true) × AllKept rs
+-- a rule that is kept leaves it to the others
+pub one-kept : (b : Bool) (r : LayoutRefusal) (others : List Rule) → b ≡ true → first_broken ((b, r) ∷ others) ≡ first_broken others
+one-kept true r others e = refl
+one-kept false r others e = absurd (cc)
 
-kept_first : (b : Bool) (refusal : LayoutRefusal) (rs : List Rule) → (is_none (first_broken rs) ≡ true → AllKept rs)
-    → is_none (if b then first_broken rs else Some refusal) ≡ true → (b ≡ true) × AllKept rs
-kept_first true refusal rs others e = (refl, others e)
-kept_first false refusal rs others e = absurd (cc)
-
-pub all_kept : (rules : List Rule) → is_none (first_broken rules) ≡ true → AllKept rules
-all_kept [] e = tt
-all_kept (r ∷ rs) e = kept_first r.0 r.1 rs (all_kept rs) e
-
-pub none_broken : (rules : List Rule) → AllKept rules → is_none (first_broken rules) ≡ true
-none_broken [] h = refl
-none_broken (r ∷ rs) h = rw h.0 (none_broken rs h.1)
+-- a rule that is broken is the first
+pub one-broken : (b : Bool) (r : LayoutRefusal) (others : List Rule) → b ≡ false → first_broken ((b, r) ∷ others) ≡ Some r
+one-broken true r others e = absurd (cc)
+one-broken false r others e = refl

@@ -5,7 +5,7 @@ use Rattle.source_io.specs.Told.{Holds, SizeIs}
 use Rattle.source_io.specs.Asked.{Asks}
 use Rattle.grid_cells.specs.LayoutParts.{LayoutParts, line_layout}
 use Rattle.grid_cells.specs.declared.refusal.LayoutRefusal.{LayoutRefusal}
-use Rattle.array_file.specs.Header.{layout_refusal, file_size}
+use Rattle.array_file.specs.Header.{layout_refusal, stored_layout, file_size}
 use Rattle.array_file.specs.Reads.{ReadsHeader}
 use Rattle.array_file.proofs.Lines.{file_size-line}
 use Rattle.array_file.specs.declared.header.HeaderFault.TheVariants.{Refused}
@@ -26,11 +26,23 @@ refused (Some all) header size n refusal is_size is_n held e =
     subst (λ (k : ℕ). layout_refusal (take 96 all) k ≡ Some refusal) is_size
     (subst (λ (h : List ℕ). layout_refusal h size ≡ Some refusal) front e)
 
+pub accepted : (told : Option (List ℕ)) (header : List ℕ) (size n : ℕ) (l : LayoutParts) → SizeIs told size → n ≡ min 96 size → Holds told 0 n header
+    → layout_refusal header size ≡ None → l ≡ stored_layout header → ReadsHeader told (Ok l)
+accepted None header size n l is_size is_n held e same = tt
+accepted (Some all) header size n l is_size is_n held e same =
+    let front = front_is all header size n is_size is_n held.1 in (
+      ap (λ (k : ℕ). layout_refusal (take 96 all) k) (sym is_size) ∙ ap (λ (h : List ℕ). layout_refusal h size) (sym front) ∙ e,
+      same ∙ ap stored_layout front,
+    )
+
 -- what a slice of a vector shows after it was read into
 pub holds_slice : (told : Option (List ℕ)) (at n k m : ℕ) (into rest slice : List ℕ) → Holds told at k into → length into ≡ k → k ≡ m → m ≡ n → slice ≡ take m (into ++ rest) → Holds told at n slice
 holds_slice told at n k m into rest slice held long is_m is_n e =
     let same : slice ≡ into = e ∙ take-append-le m into rest (omega arith) ∙ take_all m into (omega arith) in
     subst (Holds told at n) (sym same) (subst (λ j. Holds told at j into) (is_m ∙ is_n) held)
+
+pub asks_to : (old new : Option (List (ℕ × ℕ))) (a b : ℕ) → a ≡ b → Asks old new 0 a → Asks old new 0 b
+asks_to old new a b e asked = subst (Asks old new 0) e asked
 
 -- reads of the four bytes of each cell of a line ask for bytes of the file
 pub asks_cells : (old new : Option (List (ℕ × ℕ))) (l : LayoutParts) (n k : ℕ) → l ≡ line_layout n → 1 ≤ n → k ≡ 4 * n → Asks old new 96 (96 + k) → Asks old new 96 (file_size l)

@@ -1,13 +1,20 @@
--- The header of an array file: its numbers, and the first rule that a file breaks.
-use Rattle.std.specs.Prelude.{ℕ, ◌+◌, ◌*◌, ◌==◌, ◌&&◌, nat_le, nat_eq, Bool, List, [], ◌∷◌, ◌++◌, take, drop, map, slice_index, Option, Some, None, is_none, codes, if◌then◌else◌}
-use Rattle.std.specs.List.{range_with_len, starts_with}
-use Rattle.byteorder.specs.Endian.{little_number}
-use Rattle.grid_cells.specs.LayoutParts.{LayoutParts, chunk_cells, chunk_count}
-use Rattle.grid_cells.specs.Rules.{Rule, first_broken, layout_rules, block_at}
+-- The header of an array file: its numbers, the layout that they state, and the first rule that a file breaks.
+use Rattle.std.specs.Prelude.{ℕ, ◌+◌, ◌*◌, ◌==◌, nat_le, nat_eq, List, [], ◌∷◌, ◌++◌, take, drop, map, slice_index, Option, codes}
+use Rattle.std.specs.List.{flat_map, range_with_len, starts_with}
+use Rattle.byteorder.specs.Endian.{little_bytes, little_number}
+use Rattle.grid_cells.specs.LayoutParts.{LayoutParts}
+use Rattle.grid_cells.specs.Chunks.{chunk_cells, chunk_count}
+use Rattle.grid_cells.specs.Rules.{Rule, first_broken, layout_rules}
 use Rattle.grid_cells.specs.declared.refusal.LayoutRefusal.{LayoutRefusal}
-use Rattle.grid_cells.specs.declared.refusal.LayoutRefusal.TheVariants.{Short, Magic, Version, WrongLength, NotBuilt}
+use Rattle.grid_cells.specs.declared.refusal.LayoutRefusal.TheVariants.{Short, Magic, Version, WrongLength}
 
--- the k-th number of the header, behind the 12 bytes of its magic word
+-- the twelve bytes that each array file begins with
+abbrev pub magic_word : List ℕ
+magic_word = codes "SEARCHLIGHT\n"
+
+-- ---- from a header to a layout
+
+-- the k-th number of the header, behind the magic word
 abbrev pub header_number : List ℕ → ℕ → ℕ
 header_number header k = little_number 4 (drop (4 * k) (drop 12 header))
 
@@ -33,6 +40,18 @@ layout_in numbers = record {
 unfoldable pub stored_layout : List ℕ → LayoutParts
 stored_layout header = layout_in (header_numbers header)
 
+-- ---- from a layout to a header
+
+-- the 21 numbers of a layout
+abbrev pub layout_numbers : LayoutParts → List ℕ
+layout_numbers l = 1 ∷ l.rank ∷ [] ++ l.extents ++ l.chunk ++ l.levels ∷ [] ++ flat_map (λ block. block) l.blocks
+
+-- the header of a layout: the magic word, and its numbers of four bytes each, the lowest byte first
+unfoldable pub header_of : LayoutParts → List ℕ
+header_of l = magic_word ++ flat_map (little_bytes 4) (layout_numbers l)
+
+-- ---- which files are refused
+
 -- how many bytes the header and the chunks of a layout take
 abbrev pub file_size : LayoutParts → ℕ
 file_size l = 96 + 4 * chunk_cells l * chunk_count l
@@ -41,22 +60,11 @@ file_size l = 96 + 4 * chunk_cells l * chunk_count l
 abbrev pub file_rules : List ℕ → ℕ → List Rule
 file_rules header size =
     (nat_le 96 size, Short size) ∷ []
-    ++ (starts_with nat_eq header (codes "SEARCHLIGHT\n"), Magic) ∷ []
+    ++ (starts_with nat_eq header magic_word, Magic) ∷ []
     ++ (slice_index (header_numbers header) 0 == 1, Version (slice_index (header_numbers header) 0)) ∷ []
     ++ layout_rules (stored_layout header)
     ++ (size == file_size (stored_layout header), WrongLength (file_size (stored_layout header)) size) ∷ []
 
 -- the refusal of the first rule that such a file breaks
-abbrev pub broken_rule : List ℕ → ℕ → Option LayoutRefusal
-broken_rule header size = first_broken (file_rules header size)
-
--- the form that is read so far: one dimension, one chunk of at most 2^16 cells, one level of one block
-abbrev pub is_line : LayoutParts → Bool
-is_line l =
-    l.rank == 1 && l.levels == 1 && nat_le (slice_index l.extents 0) 65536
-    && slice_index l.chunk 0 == slice_index l.extents 0
-    && block_at l 0 0 == slice_index l.extents 0
-
--- the refusal of a file: `NotBuilt` exactly where it breaks a rule or is not of this form
 unfoldable pub layout_refusal : List ℕ → ℕ → Option LayoutRefusal
-layout_refusal header size = if is_none (broken_rule header size) && is_line (stored_layout header) then None else Some NotBuilt
+layout_refusal header size = first_broken (file_rules header size)

@@ -1,4 +1,3 @@
 pub mod Header
-pub mod Line
 pub mod Stored
 pub mod Reads

@@ -7,7 +7,8 @@ use Rattle.byteorder.specs.Endian.{little_number}
 use Rattle.grid_cells.specs.Numbers.{product}
 use Rattle.grid_cells.specs.Array.{Array}
 use Rattle.grid_cells.specs.Cells.{cell_value, array_of}
-use Rattle.grid_cells.specs.LayoutParts.{LayoutParts, chunk_cells, chunk_of, place_in_chunk}
+use Rattle.grid_cells.specs.LayoutParts.{LayoutParts}
+use Rattle.grid_cells.specs.Chunks.{chunk_cells, chunk_of, place_in_chunk}
 use Rattle.grid_cells.specs.declared.cell.Cell.{Cell}
 use Rattle.grid_cells.specs.declared.refusal.LayoutRefusal.{LayoutRefusal}
 use Rattle.array_file.specs.Header.{layout_refusal, stored_layout}

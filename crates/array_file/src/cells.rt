@@ -1,10 +1,11 @@
 //! The cells of an array file.
-ghost use Rattle.std.specs.Prelude.{◌≡◌, ◌+◌, ◌*◌, ◌≤◌, ◌++◌, length, map, vec_len, vec_capacity, IfOk, IsErrOf};
+ghost use Rattle.std.specs.Prelude.{◌≡◌, ◌+◌, ◌*◌, ◌≤◌, ◌++◌, length, map, true, vec_len, vec_capacity, IfOk, IsErrOf};
 ghost use Rattle.std.specs.List.{range_with_len};
 ghost use Rattle.source_io.specs.Told.{Rose};
 ghost use Rattle.source_io.specs.Asked.{Asks};
 ghost use Rattle.grid_cells.specs.Numbers.{product};
 ghost use Rattle.grid_cells.specs.LayoutParts.{line_layout};
+ghost use Rattle.grid_cells.specs.Chunks.{is_line};
 ghost use Rattle.grid_cells.specs.declared.layout.TheConstants.{MOST_CHUNK_CELLS};
 ghost use Rattle.array_file.specs.Header.{file_size};
 ghost use Rattle.array_file.specs.Stored.{cell_at, HoldsCells, MakesArray};
@@ -43,14 +44,16 @@ fn put_cells(cells: &mut Vec<Cell>, bytes: &[u8], n: usize)
     }
 }
 
-/// Reads the cells of a file of this layout, in row-major order. All memory is taken before the source is
-/// read. `Read` where the source counted a fault, and `NoMemory` where memory ran out. Source: own.
+/// Reads the cells of a file of this layout, in row-major order. So far it reads lines: one dimension in
+/// one chunk, with one level of one block. All memory is taken before the source is read. `Read` where the
+/// source counted a fault, and `NoMemory` where memory ran out. Source: own.
 pub fn read_cells<S: ByteSource>(
     alloc: Global,
     layout: &Layout,
     src: &mut S,
 ) -> Result<Vec<Cell>, CellsFault>
-    requires { file_size layout.now ≤ S.len src.old }
+    requires line { is_line layout.now ≡ true }
+    requires whole { file_size layout.now ≤ S.len src.old }
     ensures cells { IfOk result (λ cells. HoldsCells (S.bytes src.old) layout.now cells.items) }
     ensures array { IfOk result (λ cells. MakesArray (S.bytes src.old) layout.now cells.items) }
     ensures count { IfOk result (λ cells. length cells.items ≡ product layout.now.extents) }

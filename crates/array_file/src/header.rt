@@ -1,22 +1,27 @@
 //! The header of an array file.
-ghost use Rattle.std.specs.Prelude.{◌≡◌, ◌≤◌, Some, None, length, min, MatchResult, IfOk, IsErrOf};
+ghost use Rattle.std.specs.Prelude.{◌≡◌, ◌+◌, ◌≤◌, Some, None, length, min, MatchResult, IfOk, IsErrOf};
 ghost use Rattle.source_io.specs.Told.{Rose};
 ghost use Rattle.source_io.specs.Asked.{Asks};
+ghost use Rattle.grid_cells.specs.Rules.{first_broken, layout_rules};
 ghost use Rattle.array_file.specs.Header as parts;
-ghost use Rattle.array_file.specs.Header.{header_numbers, layout_refusal, stored_layout};
-ghost use Rattle.array_file.specs.Line as line;
-ghost use Rattle.array_file.specs.Line.{is_line_header};
+ghost use Rattle.array_file.specs.Header.{header_numbers, layout_in, layout_numbers, layout_refusal, stored_layout, three_from, header_of};
 ghost use Rattle.array_file.specs.Reads.{ReadsHeader};
 
-use crate::HEADER_BYTES;
+use crate::{HEADER_BYTES, file_size};
 use byteorder::{ByteOrder, LittleEndian};
-use grid_cells::{LONGEST_LINE, Layout, LayoutRefusal};
+use grid_cells::{Layout, LayoutRefusal};
 use source_io::{ByteSource, read_whole};
+
+/// The twelve bytes that each array file begins with.
+const MAGIC: &[u8; 12] = b"SEARCHLIGHT\n";
+
+/// The version of array files that this crate reads and writes.
+const VERSION: u32 = 1;
 
 /// Why no layout was read. Source: own.
 #[derive(Clone, Copy, Debug, PartialEq, Eq)]
 pub enum HeaderFault {
-    /// The file breaks a rule, or is not of the form that is read so far.
+    /// The file breaks a rule.
     Refused(LayoutRefusal),
     /// The source counted a fault.
     Read,
@@ -32,33 +37,38 @@ fn numbers(header: &[u8]) -> [u32; 21]
     numbers
 }
 
-/// Whether a header with these numbers is that of a line.
-fn is_line(header: &[u8], numbers: &[u32; 21]) -> bool
-    requires { numbers.now ≡ header_numbers header.now }
-    ensures { result ≡ is_line_header header.now }
+/// Three of the numbers, from the k-th on.
+fn three(numbers: &[u32; 21], k: usize) -> [u32; 3]
+    requires { k + 3 ≤ 21 }
+    ensures { result ≡ three_from numbers.now k }
 {
-    let n = numbers[2];
-    let line = [
-        1, 1, n, 1, 1, n, 1, 1, 1, n, 1, 1, 0, 0, 0, 0, 0, 0, 0, 0, 0,
+    [numbers[k], numbers[k + 1], numbers[k + 2]]
+}
+
+/// The layout that these numbers state, or the first of its rules that they break.
+fn layout_from(numbers: &[u32; 21]) -> Result<Layout, LayoutRefusal>
+    ensures { MatchResult result
+        (λ l. (first_broken (layout_rules (layout_in numbers.now)) ≡ None) × (l ≡ layout_in numbers.now))
+        (λ r. first_broken (layout_rules (layout_in numbers.now)) ≡ Some r) }
+{
+    let blocks = [
+        three(numbers, 9),
+        three(numbers, 12),
+        three(numbers, 15),
+        three(numbers, 18),
     ];
-    header.starts_with(b"SEARCHLIGHT\n") && *numbers == line
+    Layout::new(
+        numbers[1],
+        three(numbers, 2),
+        three(numbers, 5),
+        numbers[8],
+        blocks,
+    )
 }
 
-/// Whether a file with this header and this size in bytes is read.
-fn is_read(header: &[u8], size: u64, numbers: &[u32; 21]) -> bool
-    requires { numbers.now ≡ header_numbers header.now }
-    ensures { result ≡ line.is_read header.now size }
-{
-    let n = numbers[2];
-    is_line(header, numbers)
-        && 1 <= n
-        && n <= LONGEST_LINE
-        && size == HEADER_BYTES as u64 + 4 * n as u64
-}
-
-/// The layout that a file's header states, exactly where the file keeps every rule and is of the form
-/// that is read so far; else `NotBuilt`. `bytes` is the first 96 bytes, or all of a shorter file, and
-/// `size` is how many the file has. Source: own.
+/// The layout that a file's header states, exactly where the file keeps every rule; else the refusal of
+/// the first rule that it breaks. `bytes` is the first 96 bytes, or all of a shorter file, and `size` is
+/// how many the file has. Source: own.
 pub fn read_layout(bytes: &[u8], size: u64) -> Result<Layout, LayoutRefusal>
     requires { length bytes.now ≡ min 96 size }
     ensures exactly { MatchResult result
@@ -67,14 +77,28 @@ pub fn read_layout(bytes: &[u8], size: u64) -> Result<Layout, LayoutRefusal>
     ensures size { IfOk result (λ l. parts.file_size l ≡ size) }
 {
     if bytes.len() < HEADER_BYTES {
-        return Err(LayoutRefusal::NotBuilt);
+        return Err(LayoutRefusal::Short { size });
+    }
+    if !bytes.starts_with(MAGIC) {
+        return Err(LayoutRefusal::Magic);
     }
     let numbers = numbers(bytes);
-    if is_read(bytes, size, &numbers) {
-        Ok(Layout::line(numbers[2]))
-    } else {
-        Err(LayoutRefusal::NotBuilt)
+    let version = numbers[0];
+    if version != VERSION {
+        return Err(LayoutRefusal::Version { n: version });
     }
+    let layout = match layout_from(&numbers) {
+        Ok(layout) => layout,
+        Err(refusal) => return Err(refusal),
+    };
+    let stated = file_size(&layout);
+    if size != stated {
+        return Err(LayoutRefusal::WrongLength {
+            stated,
+            found: size,
+        });
+    }
+    Ok(layout)
 }
 
 /// Reads the layout of a file from its header, which is its first 96 bytes, or all of a shorter file.
@@ -99,4 +123,30 @@ pub fn read_header<S: ByteSource>(src: &mut S) -> Result<Layout, HeaderFault>
         Ok(layout) => Ok(layout),
         Err(refusal) => Err(HeaderFault::Refused(refusal)),
     }
+}
+
+/// The 21 numbers of a layout's header.
+fn numbers_of(layout: &Layout) -> [u32; 21]
+    ensures { result ≡ layout_numbers layout.now }
+{
+    let [e, e_2, e_3] = layout.shape().extents;
+    let [c, c_2, c_3] = layout.chunk();
+    let [b, b_2, b_3] = layout.block(0);
+    let [b_4, b_5, b_6] = layout.block(1);
+    let [b_7, b_8, b_9] = layout.block(2);
+    let [b_10, b_11, b_12] = layout.block(3);
+    let rank = u32::from(layout.rank());
+    let levels = u32::from(layout.levels());
+    [
+        VERSION, rank, e, e_2, e_3, c, c_2, c_3, levels, //
+        b, b_2, b_3, b_4, b_5, b_6, b_7, b_8, b_9, b_10, b_11, b_12,
+    ]
+}
+
+/// Writes the header of a layout. Source: own.
+pub fn write_layout(layout: &Layout, into: &mut [u8; 96])
+    ensures { into.new ≡ header_of layout.now }
+{
+    into[..12].copy_from_slice(MAGIC);
+    LittleEndian::write_u32_into(&numbers_of(layout), &mut into[12..]);
 }

@@ -1,6 +1,6 @@
 //! Places in an array file.
 ghost use Rattle.std.specs.Prelude.{◌≡◌, ◌<◌};
-ghost use Rattle.grid_cells.specs.LayoutParts.{chunk_count};
+ghost use Rattle.grid_cells.specs.Chunks.{chunk_count};
 ghost use Rattle.array_file.specs.Header as header;
 ghost use Rattle.array_file.specs.Stored.{chunk_start};
 

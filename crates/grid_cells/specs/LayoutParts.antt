@@ -1,7 +1,6 @@
--- How an array lies in chunks, and its levels of blocks, as numbers.
-use Rattle.std.specs.Prelude.{ℕ, ◌+◌, ◌-◌, ◌*◌, ◌/◌, ◌%◌, List, [], ◌∷◌, map, zip}
+-- How an array lies in chunks, and its levels of blocks, as numbers; and grids of pieces of one size.
+use Rattle.std.specs.Prelude.{ℕ, ◌+◌, ◌-◌, ◌*◌, ◌/◌, List, [], ◌∷◌, map, zip}
 use Rattle.grid_cells.specs.Numbers.{product}
-use Rattle.grid_cells.specs.Array.{coordinates_of}
 
 -- the rank, the extents of the array and of a chunk, how many levels there are, and the block extents of four levels, the finest first
 pub record LayoutParts : Type 0 where
@@ -34,19 +33,3 @@ abbrev pub index_of : List ℕ → List ℕ → ℕ
 index_of [] cs = 0
 index_of (n ∷ ns) [] = 0
 index_of (n ∷ ns) (c ∷ cs) = c * product ns + index_of ns cs
-
--- how many cells a chunk has, padding included
-abbrev pub chunk_cells : LayoutParts → ℕ
-chunk_cells l = product l.chunk
-
--- how many chunks there are
-abbrev pub chunk_count : LayoutParts → ℕ
-chunk_count l = product (grid_of l.extents l.chunk)
-
--- in which chunk the k-th cell lies
-abbrev pub chunk_of : LayoutParts → ℕ → ℕ
-chunk_of l k = index_of (grid_of l.extents l.chunk) (map (λ (c, m). c / m) (zip (coordinates_of l.extents k) l.chunk))
-
--- at which place of its chunk the k-th cell lies
-abbrev pub place_in_chunk : LayoutParts → ℕ → ℕ
-place_in_chunk l k = index_of l.chunk (map (λ (c, m). c % m) (zip (coordinates_of l.extents k) l.chunk))

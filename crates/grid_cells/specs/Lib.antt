@@ -3,4 +3,8 @@ pub mod Records
 pub mod Array
 pub mod Cells
 pub mod LayoutParts
+pub mod Rects
+pub mod Tiles
+pub mod Chunks
 pub mod Rules
+pub mod Stated

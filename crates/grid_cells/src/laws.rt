@@ -1,6 +1,10 @@
-//! What a record is, in the words of the subject.
-ghost use Rattle.std.specs.Prelude.{◌≡◌, ℕ, List, ℤ, ◌++◌, sum_by, IsPermutation};
+//! What records and layouts are, in the words of the subject.
+ghost use Rattle.std.specs.Prelude.{◌≡◌, ◌<◌, ◌+◌, ℕ, List, ℤ, ◌++◌, sum_by, IsPermutation, true};
+ghost use Rattle.grid_cells.specs.Chunks.{chunk_count, chunk_rect, chunk_around, block_count, block_rect, block_above};
+ghost use Rattle.grid_cells.specs.LayoutParts.{LayoutParts};
 ghost use Rattle.grid_cells.specs.Records.{record_of, merged};
+ghost use Rattle.grid_cells.specs.Rects.{holds_place, LiesInside};
+ghost use Rattle.grid_cells.specs.Rules.{IsLayout};
 
 /// The record of the numbers of two lists is the merged one of their records. Source: own.
 pub fn record_of_both_is_merged()
@@ -15,4 +19,26 @@ pub fn record_of_is_free_of_order()
 /// Numbers that every weighing gives the same weight have one record. Source: own.
 pub fn record_of_by_weighings()
     ensures { (xs ys : List ℤ) → ((weight : ℤ → ℕ) → sum_by weight xs ≡ sum_by weight ys) → record_of xs ≡ record_of ys }
+{}
+
+/// Blocks nest: each block of a level that is used lies inside one block of the next level, and no other block
+/// of that level has a place of it. Source: own.
+pub fn blocks_nest()
+    ensures block { (l : LayoutParts) (level b : ℕ) → IsLayout l → level + 1 < l.levels → b < block_count l level →
+        block_above l level b < block_count l (level + 1) }
+    ensures inside { (l : LayoutParts) (level b : ℕ) → IsLayout l → level + 1 < l.levels → b < block_count l level →
+        LiesInside (block_rect l level b) (block_rect l (level + 1) (block_above l level b)) }
+    ensures alone { (l : LayoutParts) (level b other : ℕ) (at : List ℕ) → IsLayout l → level + 1 < l.levels →
+        b < block_count l level → other < block_count l (level + 1) →
+        holds_place (block_rect l level b) at ≡ true → holds_place (block_rect l (level + 1) other) at ≡ true →
+        other ≡ block_above l level b }
+{}
+
+/// Each block of level 0 lies inside one chunk, and no other chunk has a place of it. Source: own.
+pub fn blocks_lie_in_chunks()
+    ensures chunk { (l : LayoutParts) (b : ℕ) → IsLayout l → b < block_count l 0 → chunk_around l b < chunk_count l }
+    ensures inside { (l : LayoutParts) (b : ℕ) → IsLayout l → b < block_count l 0 →
+        LiesInside (block_rect l 0 b) (chunk_rect l (chunk_around l b)) }
+    ensures alone { (l : LayoutParts) (b n : ℕ) (at : List ℕ) → IsLayout l → b < block_count l 0 → n < chunk_count l →
+        holds_place (block_rect l 0 b) at ≡ true → holds_place (chunk_rect l n) at ≡ true → n ≡ chunk_around l b }
 {}

@@ -1,9 +1,14 @@
 //! Layouts of arrays in chunks and blocks.
-ghost use Rattle.std.specs.Prelude.{◌≡◌, ◌<◌, ◌≤◌, [], slice_index_or};
+ghost use Rattle.std.specs.Prelude.{◌≡◌, ◌≤◌, ◌<◌, true, Some, None, MatchResult};
+ghost use Rattle.grid_cells.specs.Chunks as chunks;
+ghost use Rattle.grid_cells.specs.LayoutParts.{LayoutParts, line_layout};
 ghost use Rattle.grid_cells.specs.Numbers.{product};
-ghost use Rattle.grid_cells.specs.LayoutParts.{line_layout, chunk_cells, chunk_count};
+ghost use Rattle.grid_cells.specs.Rects.{is_place};
+ghost use Rattle.grid_cells.specs.Rules.{first_broken, layout_rules, IsLayout};
 
-use crate::Shape;
+use crate::lengths::{product, tile_count};
+use crate::stated::Stated;
+use crate::{LayoutRefusal, Rect, Shape, tiles};
 use std::marker::Model;
 
 /// How many cells an array has at most, and so how many chunks. Source: own.
@@ -12,57 +17,63 @@ pub const MOST_CELLS: u32 = 67108864;
 /// How many cells a chunk has at most. Source: own.
 pub const MOST_CHUNK_CELLS: u32 = 65536;
 
-/// How many cells a line has at most, since it lies in one chunk. Source: own.
-pub const LONGEST_LINE: u32 = 65536;
-
 /// How an array lies in chunks, and its levels of blocks. Contracts see it as its parts: the rank, the
 /// extents of the array and of a chunk, how many levels there are, and the block extents of four levels.
-/// It keeps the form that is read so far, a line: one dimension of 1 to `LONGEST_LINE` cells in one
-/// chunk, with one level of one block. Source: own.
+/// Its type keeps every rule of a layout (`IsLayout`). Source: own.
 #[derive(Clone, Copy, Debug, PartialEq, Eq)]
 pub struct Layout {
-    extent: u32,
+    rank: u8,
+    extents: [u32; 3],
+    chunk: [u32; 3],
+    levels: u8,
+    blocks: [[u32; 3]; 4],
 }
 
 impl Model for Layout {
-    ghost use Rattle.std.specs.Prelude.{◌≤◌, slice_index};
-    ghost use Rattle.grid_cells.specs.LayoutParts.{LayoutParts, line_layout};
-    ghost use Rattle.grid_cells.specs.declared.layout.TheConstants.{LONGEST_LINE};
+    ghost use Rattle.grid_cells.specs.LayoutParts.{LayoutParts};
+    ghost use Rattle.grid_cells.specs.Rules.{IsLayout};
 
     ghost Value = { LayoutParts };
 
-    ghost view = { λ l. line_layout l.extent };
+    ghost view = { λ l. record { rank = l.rank; extents = l.extents; chunk = l.chunk; levels = l.levels; blocks = l.blocks } };
 
-    ghost invariant = { λ l. (1 ≤ l.extent) × (l.extent ≤ LONGEST_LINE) };
+    ghost invariant = { λ l. IsLayout (record { rank = l.rank; extents = l.extents; chunk = l.chunk; levels = l.levels; blocks = l.blocks }) };
 
-    ghost inverse = { λ parts. record { extent = slice_index parts.extents 0 } };
+    ghost inverse = { λ parts. record { rank = parts.rank; extents = parts.extents; chunk = parts.chunk; levels = parts.levels; blocks = parts.blocks } };
 }
 
 impl Layout {
-    /// The layout of a line of so many cells. Source: own.
-    pub fn line(extent: u32) -> Layout
-        requires some { 1 ≤ extent }
-        requires few { extent ≤ LONGEST_LINE }
-        ensures { result ≡ line_layout extent }
+    /// The layout with these numbers, or the refusal of the first rule that they break. Source: own.
+    pub fn new(
+        rank: u32,
+        extents: [u32; 3],
+        chunk: [u32; 3],
+        levels: u32,
+        blocks: [[u32; 3]; 4],
+    ) -> Result<Layout, LayoutRefusal>
+        ensures { let parts : LayoutParts = record { rank = rank; extents = extents; chunk = chunk; levels = levels; blocks = blocks } in
+            MatchResult result
+            (λ l. (first_broken (layout_rules parts) ≡ None) × (l ≡ parts))
+            (λ r. first_broken (layout_rules parts) ≡ Some r) }
     {
-        Layout { extent }
-    }
-
-    /// How many cells the line has. Only while lines are all that is read. Source: own.
-    pub fn extent(&self) -> u32
-        ensures line { self.now ≡ line_layout result }
-        ensures some { 1 ≤ result }
-        ensures few { result ≤ LONGEST_LINE }
-    {
-        self.extent
+        let stated = Stated::new(rank, extents, chunk, levels, blocks);
+        stated.check()?;
+        Ok(Layout {
+            rank: rank as u8,
+            extents,
+            chunk,
+            levels: levels as u8,
+            blocks,
+        })
     }
 
     /// How many dimensions the array uses. Source: own.
     pub fn rank(&self) -> u8
-        ensures { result ≡ self.now.rank }
+        ensures rank { result ≡ self.now.rank }
+        ensures known { (1 ≤ result) × (result ≤ 3) }
+        ensures rules { IsLayout self.now }
     {
-        let _extent = &self.extent;
-        1
+        self.rank
     }
 
     /// The extents of the array, in cells; 1 in a dimension that it does not use. Source: own.
@@ -71,7 +82,7 @@ impl Layout {
         ensures few { product result.extents ≤ MOST_CELLS }
     {
         Shape {
-            extents: [self.extent, 1, 1],
+            extents: self.extents,
         }
     }
 
@@ -79,64 +90,117 @@ impl Layout {
     pub fn chunk(&self) -> [u32; 3]
         ensures { result ≡ self.now.chunk }
     {
-        [self.extent, 1, 1]
+        self.chunk
     }
 
     /// How many levels of blocks there are. Source: own.
     pub fn levels(&self) -> u8
         ensures { result ≡ self.now.levels }
     {
-        let _extent = &self.extent;
-        1
+        self.levels
     }
 
     /// The extents of a block of a level, in cells, with 1 in a dimension that the array does not use.
     /// Levels count from 0, the finest; in a level that is not used they are 0. Source: own.
     pub fn block(&self, level: u8) -> [u32; 3]
         requires { level < 4 }
-        ensures { result ≡ slice_index_or self.now.blocks level [] }
+        ensures { result ≡ chunks.block_of self.now level }
     {
-        match level {
-            0 => [self.extent, 1, 1],
-            _ => [0, 0, 0],
-        }
+        self.blocks[level as usize]
     }
 
     /// How many chunks there are. Source: own.
     pub fn chunks(&self) -> u32
-        ensures count { result ≡ chunk_count self.now }
+        ensures count { result ≡ chunks.chunk_count self.now }
         ensures some { 1 ≤ result }
         ensures few { result ≤ MOST_CELLS }
     {
-        let _extent = &self.extent;
-        1
+        tile_count(&self.extents, &self.chunk) as u32
     }
 
     /// How many cells a chunk has, padding included. Source: own.
     pub fn chunk_cells(&self) -> u32
-        ensures count { result ≡ chunk_cells self.now }
+        ensures count { result ≡ chunks.chunk_cells self.now }
         ensures some { 1 ≤ result }
         ensures few { result ≤ MOST_CHUNK_CELLS }
     {
-        self.extent
+        product(&self.chunk) as u32
     }
-}
 
-#[cfg(test)]
-mod tests {
-    use super::*;
+    /// The places of chunk `n`, cut to the array. Chunks are numbered row-major over their grid. Source: own.
+    pub fn chunk_rect(&self, n: u32) -> Rect
+        requires { n < chunks.chunk_count self.now }
+        ensures { result ≡ chunks.chunk_rect self.now n }
+    {
+        tiles::tile_rect(&self.extents, &self.chunk, n)
+    }
 
-    #[test]
-    fn a_line_is_one_chunk_with_one_block(rt: HostRuntime) {
-        let line = Layout::line(8);
-        assert_eq!(rt; line.extent(), 8);
-        assert_eq!(rt; line.rank(), 1);
-        assert_eq!(rt; line.shape().extents, [8, 1, 1]);
-        assert_eq!(rt; line.chunk(), [8, 1, 1]);
-        assert_eq!(rt; line.levels(), 1);
-        assert_eq!(rt; line.block(0), [8, 1, 1]);
-        assert_eq!(rt; line.block(3), [0, 0, 0]);
-        assert_eq!(rt; line.chunks(), 1);
-        assert_eq!(rt; line.chunk_cells(), 8);
+    /// In which chunk a place of the array lies, and at which place of it, row-major and padding included.
+    /// Source: own.
+    pub fn chunk_of(&self, at: [u32; 3]) -> (u32, u32)
+        requires { is_place self.now.extents at ≡ true }
+        ensures chunk { result.0 ≡ chunks.chunk_at self.now at }
+        ensures place { result.1 ≡ chunks.place_at self.now at }
+        ensures chunk_exists { result.0 < chunks.chunk_count self.now }
+        ensures place_exists { result.1 < chunks.chunk_cells self.now }
+    {
+        let chunk = tiles::tile_of(&self.extents, &self.chunk, at);
+        (chunk, tiles::place_in_tile(&self.chunk, at))
+    }
+
+    /// How many blocks a level has in each dimension. Source: own.
+    pub fn grid(&self, level: u8) -> [u32; 3]
+        requires { level < self.now.levels }
+        ensures { result ≡ chunks.level_grid self.now level }
+    {
+        tiles::grid_of(&self.extents, &self.blocks[level as usize])
+    }
+
+    /// The places of a block of a level, cut to the array. Blocks are numbered row-major over the level's
+    /// grid. Source: own.
+    pub fn block_rect(&self, level: u8, block: u32) -> Rect
+        requires level { level < self.now.levels }
+        requires block { block < chunks.block_count self.now level }
+        ensures { result ≡ chunks.block_rect self.now level block }
+    {
+        tiles::tile_rect(&self.extents, &self.blocks[level as usize], block)
+    }
+
+    /// Whether it is that of a line: one dimension in one chunk, with one level of one block. Source: own.
+    pub fn is_line(&self) -> bool
+        ensures { result ≡ chunks.is_line self.now }
+    {
+        let [n, _, _] = self.extents;
+        self.rank == 1
+            && self.levels == 1
+            && n <= MOST_CHUNK_CELLS
+            && self.chunk[0] == n
+            && self.blocks[0][0] == n
+    }
+
+    /// The layout of a line of so many cells. Source: own.
+    pub fn line(extent: u32) -> Layout
+        requires some { 1 ≤ extent }
+        requires few { extent ≤ MOST_CHUNK_CELLS }
+        ensures { result ≡ line_layout extent }
+    {
+        let line = [extent, 1, 1];
+        Layout {
+            rank: 1,
+            extents: line,
+            chunk: line,
+            levels: 1,
+            blocks: [line, [0; 3], [0; 3], [0; 3]],
+        }
+    }
+
+    /// How many cells a line has. Source: own.
+    pub fn extent(&self) -> u32
+        requires { chunks.is_line self.now ≡ true }
+        ensures line { self.now ≡ line_layout result }
+        ensures some { 1 ≤ result }
+        ensures few { result ≤ MOST_CHUNK_CELLS }
+    {
+        self.extents[0]
     }
 }

@@ -1,22 +1,29 @@
 //! Cells, their records, and the geometry of arrays: shapes, rectangles, regions and their sides, layouts in
 //! chunks and blocks. Nothing here takes memory or touches the outside.
 //! Definitions: `specs/Array` (an array, a region's places and present cells), `specs/Numbers` (count, sum,
-//! least, greatest), `specs/Records` (records of numbers), `specs/Cells` (stored cells), `specs/LayoutParts`
-//! (chunks and blocks as numbers) and `specs/Rules` (the rules that a layout keeps, in their order).
+//! least, greatest), `specs/Records` (records of numbers), `specs/Cells` (stored cells), `specs/Rects` and
+//! `specs/Tiles` (rectangles, and those of one size that cover an array), `specs/LayoutParts` and `specs/Chunks`
+//! (layouts as numbers, their chunks and blocks) and `specs/Rules` (the rules that a layout keeps, in their order).
 #![tactic(auto)]
 
 pub mod cell;
+pub mod geometry;
 pub mod laws;
 pub mod layout;
+mod lengths;
 pub mod record;
 pub mod rect;
 pub mod refusal;
 pub mod region;
 pub mod shape;
 pub mod side;
+mod stated;
+#[cfg(test)]
+mod tests;
+mod tiles;
 
 pub use crate::cell::Cell;
-pub use crate::layout::{LONGEST_LINE, Layout, MOST_CELLS, MOST_CHUNK_CELLS};
+pub use crate::layout::{Layout, MOST_CELLS, MOST_CHUNK_CELLS};
 pub use crate::record::{Record, fold, merge};
 pub use crate::rect::Rect;
 pub use crate::refusal::LayoutRefusal;

@@ -1,4 +1,6 @@
 //! Rectangles of places.
+ghost use Rattle.std.specs.Prelude.{◌≡◌, ◌<◌, ◌-◌, ◌↔◌, ◌^◌, IsTrue, map, zip};
+ghost use Rattle.grid_cells.specs.Rects.{area_of, meet_of, holds_place, LiesInside};
 
 /// The places from `from` up to but not including `to` in each of three dimensions. It has no places
 /// where some `from` is not below its `to`. Source: own.
@@ -8,4 +10,118 @@ pub struct Rect {
     pub from: [u32; 3],
     /// The place behind the last one in each dimension.
     pub to: [u32; 3],
+}
+
+impl Rect {
+    /// How many places it has. Source: own.
+    pub fn area(&self) -> u64
+        requires { area_of self.now < 2 ^ 64 }
+        ensures { result ≡ area_of self.now }
+    {
+        let [a, b, c] = self.lengths();
+        u64::from(a) * u64::from(b) * u64::from(c)
+    }
+
+    /// The rectangle of the places that lie in both. Source: own.
+    pub fn meet(&self, other: &Rect) -> Rect
+        ensures { result ≡ meet_of self.now other.now }
+    {
+        let [f, f_2, f_3] = self.from;
+        let [g, g_2, g_3] = other.from;
+        let [t, t_2, t_3] = self.to;
+        let [u, u_2, u_3] = other.to;
+        Rect {
+            from: [f.max(g), f_2.max(g_2), f_3.max(g_3)],
+            to: [t.min(u), t_2.min(u_2), t_3.min(u_3)],
+        }
+    }
+
+    /// Whether a place lies in it. Source: own.
+    pub fn holds(&self, at: [u32; 3]) -> bool
+        ensures { result ≡ holds_place self.now at }
+    {
+        let [c, c_2, c_3] = at;
+        let [f, f_2, f_3] = self.from;
+        let [t, t_2, t_3] = self.to;
+        f <= c && c < t && f_2 <= c_2 && c_2 < t_2 && f_3 <= c_3 && c_3 < t_3
+    }
+
+    /// Whether all its places lie in another one. Source: own.
+    pub fn inside(&self, other: &Rect) -> bool
+        ensures { IsTrue result ↔ LiesInside self.now other.now }
+    {
+        self.is_empty() || self.is_between(other)
+    }
+
+    /// How long it is in each dimension.
+    fn lengths(&self) -> [u32; 3]
+        ensures { result ≡ map (λ (f, t). t - f) (zip self.now.from self.now.to) }
+    {
+        let [f, f_2, f_3] = self.from;
+        let [t, t_2, t_3] = self.to;
+        [
+            t.saturating_sub(f),
+            t_2.saturating_sub(f_2),
+            t_3.saturating_sub(f_3),
+        ]
+    }
+
+    /// Whether it has no places.
+    fn is_empty(&self) -> bool
+        ensures { IsTrue result ↔ area_of self.now ≡ 0 }
+    {
+        let [a, b, c] = self.lengths();
+        a == 0 || b == 0 || c == 0
+    }
+
+    /// Whether its ends lie between those of another one.
+    fn is_between(&self, other: &Rect) -> bool
+        ensures { IsTrue result ↔ meet_of self.now other.now ≡ self.now }
+    {
+        let [f, f_2, f_3] = self.from;
+        let [g, g_2, g_3] = other.from;
+        let [t, t_2, t_3] = self.to;
+        let [u, u_2, u_3] = other.to;
+        g <= f && t <= u && g_2 <= f_2 && t_2 <= u_2 && g_3 <= f_3 && t_3 <= u_3
+    }
+}
+
+#[cfg(test)]
+mod tests {
+    use super::*;
+
+    const CUBE: Rect = Rect {
+        from: [1, 0, 2],
+        to: [4, 3, 5],
+    };
+
+    #[test]
+    fn has_places_where_each_end_is_behind_its_start(rt: HostRuntime) {
+        assert_eq!(rt; CUBE.area(), 27);
+        assert!(rt; CUBE.holds([3, 0, 4]));
+        assert!(rt; !CUBE.holds([4, 0, 4]));
+        let none = Rect {
+            from: [1, 3, 2],
+            to: [4, 3, 5],
+        };
+        assert_eq!(rt; none.area(), 0);
+        assert!(rt; none.inside(&CUBE));
+        assert!(rt; !CUBE.inside(&none));
+    }
+
+    #[test]
+    fn meets_another_in_what_lies_in_both(rt: HostRuntime) {
+        let other = Rect {
+            from: [0, 1, 3],
+            to: [2, 9, 9],
+        };
+        let both = Rect {
+            from: [1, 1, 3],
+            to: [2, 3, 5],
+        };
+        assert_eq!(rt; CUBE.meet(&other), both);
+        assert!(rt; both.inside(&CUBE));
+        assert!(rt; both.inside(&other));
+        assert!(rt; !CUBE.inside(&other));
+    }
 }

@@ -3,7 +3,8 @@ use Rattle.std.specs.Prelude.{ℕ, List, [], ◌∷◌, Option, Ok, Err, map, op
 use Rattle.std.specs.Global.{Global}
 use Rattle.std.specs.Option.{option_map_or}
 use Rattle.source_io.specs.Files.{Files, bytes_at}
-use Rattle.array_file.specs.Stored.{refusal_of, stored_array}
+use Rattle.array_file.specs.Stored.{stored_array}
+use Rattle.search_run.specs.Arrays.{array_refusal}
 use Rattle.grid_cells.specs.Array.{Array}
 use Rattle.query_model.specs.QueryParts.{QueryParts}
 use Rattle.query_model.specs.Text.{text_of}
@@ -18,7 +19,7 @@ use Rattle.search_run.specs.declared.ending.Ending.TheVariants.{Done, Usage, Arr
 abbrev pub query_on : List ℕ → List ℕ → Walked QueryParts
 query_on array query = walk (stored_array array).rank query
 
--- the refusal of a query, or none
+-- `Done` where the query is read, and else its refusal
 abbrev pub query_verdict : Walked QueryParts → Ending
 query_verdict (Ok q) = Done
 query_verdict (Err r) = QueryRefused r
@@ -30,11 +31,11 @@ query_output a (Err r) = []
 
 -- the array's refusal, or else the query's, or neither
 abbrev pub verdict_on : List ℕ → List ℕ → Ending
-verdict_on array query = option_map_or ArrayRefused (refusal_of array) (query_verdict (query_on array query))
+verdict_on array query = option_map_or ArrayRefused (array_refusal array) (query_verdict (query_on array query))
 
 -- the text of the query on the array, and nothing where one of them is refused
 abbrev pub text_on : List ℕ → List ℕ → List ℕ
-text_on array query = option_map_or (λ r. []) (refusal_of array) (query_output (stored_array array) (query_on array query))
+text_on array query = option_map_or (λ r. []) (array_refusal array) (query_output (stored_array array) (query_on array query))
 
 -- the same of two names, where the files are told
 abbrev pub told_verdict_on : Option Files → List ℕ → List ℕ → Option Ending

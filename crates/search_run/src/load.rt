@@ -7,7 +7,7 @@ ghost use Rattle.search_run.specs.Problem.{LoadsQuery, LoadsProblem, IsTold, IsO
 
 use crate::{Ending, Problem};
 use array_file::{CellsFault, HeaderFault, read_cells, read_header};
-use grid_cells::Layout;
+use grid_cells::LayoutRefusal;
 use query_model::Query;
 use query_text::{MOST_QUERY_BYTES, QueryFault, QueryRefusal, read_query};
 use source_io::{ByteSource, OpenFault, Shelf, read_whole};
@@ -78,15 +78,6 @@ fn load_query<F: Shelf>(alloc: Global, rank: u8, name: &str, shelf: &mut F) -> R
     query
 }
 
-/// The rank of a layout. It is known from the form that layouts have so far.
-fn rank_of(layout: &Layout) -> u8
-    ensures rank { result ≡ layout.now.rank }
-    ensures known { (1 ≤ result) × (result ≤ 3) }
-{
-    let _line = layout.extent();
-    layout.rank()
-}
-
 /// Loads the array that an open file holds, and the query of a named one: first the header of the array,
 /// then the query, then the cells.
 fn load_from<F: Shelf>(
@@ -113,7 +104,10 @@ fn load_from<F: Shelf>(
         Err(HeaderFault::Refused(refusal)) => return Err(Ending::ArrayRefused(refusal)),
         Err(HeaderFault::Read) => return Err(Ending::ReadFault),
     };
-    let query = match load_query(alloc, rank_of(&layout), query, shelf) {
+    if !layout.is_line() {
+        return Err(Ending::ArrayRefused(LayoutRefusal::NotBuilt));
+    }
+    let query = match load_query(alloc, layout.rank(), query, shelf) {
         Ok(query) => query,
         Err(ending) => return Err(ending),
     };

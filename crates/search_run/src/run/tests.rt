@@ -26,8 +26,6 @@ const BOTH_LINES: &[u8; 8] = b"x=5\nx=6\n";
 const USAGE: &[u8; 101] =
     b"searchlight: usage: searchlight COMMAND WORDS; commands: solo search rehearse verify pack info trial\n";
 
-const ARRAY_REFUSED: &[u8; 40] = b"searchlight: array refused: 14 NotBuilt\n";
-
 const READ_FAULT: &[u8; 24] = b"searchlight: read fault\n";
 
 const WRITE_FAULT: &[u8; 25] = b"searchlight: write fault\n";
@@ -76,11 +74,20 @@ impl Ran {
 
     /// Whether the query was refused so, and nothing was printed.
     fn refused(&self, refusal: &str) -> bool {
-        let said = self.err.as_bytes();
-        let Some(text) = said.strip_prefix(b"searchlight: query refused: ".as_slice()) else {
+        self.ends_with(4, b"searchlight: query refused: ", refusal)
+    }
+
+    /// Whether the array was refused so, and nothing was printed.
+    fn refused_array(&self, refusal: &str) -> bool {
+        self.ends_with(3, b"searchlight: array refused: ", refusal)
+    }
+
+    /// Whether the status is this one, nothing was printed, and these words and a refusal were said.
+    fn ends_with(&self, status: u8, words: &[u8], refusal: &str) -> bool {
+        let Some(text) = self.err.as_bytes().strip_prefix(words) else {
             return false;
         };
-        self.status == 4
+        self.status == status
             && self.out.as_bytes().is_empty()
             && text.strip_suffix(b"\n".as_slice()) == Some(refusal.as_bytes())
     }

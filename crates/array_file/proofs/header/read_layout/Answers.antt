@@ -1,24 +1,51 @@
-use Rattle.std.proofs.Common.{ℕ, List, slice_index, ◌∙◌, ap, sym, arith}
-use Rattle.grid_cells.specs.LayoutParts.{line_layout}
+use Rattle.std.proofs.Common.{List, ℕ, Some, slice_index, sym, ap, ◌∙◌, arith}
+use Rattle.grid_cells.specs.LayoutParts.{LayoutParts}
+use Rattle.grid_cells.specs.Rules.{first_broken, layout_rules}
+use Rattle.grid_cells.specs.declared.refusal.LayoutRefusal.TheVariants.{Version, WrongLength}
 use Rattle.array_file.specs.Header.{file_size}
-use Rattle.array_file.proofs.Accepted.{layout_refusal-short, layout_refusal-not_read, layout_refusal-read, stored_layout-read, file_size-read}
+use Rattle.array_file.proofs.Headers.{layout_in-numbers, layout_refusal-short, layout_refusal-magic, layout_refusal-version, layout_refusal-layout, layout_refusal-length, layout_refusal-none}
 use Rattle.array_file.proofs.header.read_layout.Goals as goal
 
 pub returns-then-bytes-lt-HEADER_BYTES-clause-exactly : goal.returns-then-bytes-lt-HEADER_BYTES-clause-exactly
 returns-then-bytes-lt-HEADER_BYTES-clause-exactly c = layout_refusal-short c.args.bytes.now c.args.size (omega arith)
 
-pub returns-then-is_read-clause-exactly : goal.returns-then-is_read-clause-exactly
-returns-then-is_read-clause-exactly c =
-    let read = sym c.is_read.ensures ∙ c.if-is_read.true in
-    let is_line = c.line.ensures ∙ ap (λ (ns : List ℕ). line_layout (slice_index ns 2)) c.numbers-numbers.ensures in
-    (layout_refusal-read c.args.bytes.now c.args.size read, is_line ∙ sym (stored_layout-read c.args.bytes.now c.args.size read))
+pub returns-then-not-starts_with-clause-exactly : goal.returns-then-not-starts_with-clause-exactly
+returns-then-not-starts_with-clause-exactly c =
+    layout_refusal-magic c.args.bytes.now c.args.size (omega arith) (sym c.starts_with.ensures.value ∙ c.if-not-starts_with.true)
 
-pub returns-then-is_read-clause-size : goal.returns-then-is_read-clause-size
-returns-then-is_read-clause-size c =
-    let read = sym c.is_read.ensures ∙ c.if-is_read.true in
-    let is_line = c.line.ensures ∙ ap (λ (ns : List ℕ). line_layout (slice_index ns 2)) c.numbers-numbers.ensures in
-    ap file_size is_line ∙ file_size-read c.args.bytes.now c.args.size read
+pub returns-then-version-ne-VERSION-clause-exactly : goal.returns-then-version-ne-VERSION-clause-exactly
+returns-then-version-ne-VERSION-clause-exactly c =
+    let header = c.args.bytes.now in
+    let same = c.numbers-numbers.ensures in
+    layout_refusal-version header c.args.size (omega arith) (sym c.starts_with.ensures.value ∙ c.if-not-starts_with.false)
+    (λ one. c.if-version-ne-VERSION.true (ap (λ (ns : List ℕ). slice_index ns 0) same ∙ one))
+    ∙ ap (λ (ns : List ℕ). Some (Version (slice_index ns 0))) (sym same)
 
-pub returns-else-is_read-clause-exactly : goal.returns-else-is_read-clause-exactly
-returns-else-is_read-clause-exactly c =
-    layout_refusal-not_read c.args.bytes.now c.args.size (sym c.is_read.ensures ∙ c.if-is_read.false)
+pub returns-in-Err-clause-exactly : goal.returns-in-Err-clause-exactly
+returns-in-Err-clause-exactly c =
+    let header = c.args.bytes.now in
+    let one = ap (λ (ns : List ℕ). slice_index ns 0) (sym c.numbers-numbers.ensures) ∙ c.if-version-ne-VERSION.false in
+    let stored = layout_in-numbers header c.numbers-numbers.result c.numbers-numbers.ensures in
+    layout_refusal-layout header c.args.size c.in-Err.refusal (omega arith) (sym c.starts_with.ensures.value ∙ c.if-not-starts_with.false) one
+    (ap (λ (l : LayoutParts). first_broken (layout_rules l)) (sym stored) ∙ c.in-Err.ensures)
+
+pub returns-then-size-stated-clause-exactly : goal.returns-then-size-stated-clause-exactly
+returns-then-size-stated-clause-exactly c =
+    let header = c.args.bytes.now in
+    let one = ap (λ (ns : List ℕ). slice_index ns 0) (sym c.numbers-numbers.ensures) ∙ c.if-version-ne-VERSION.false in
+    let stored = layout_in-numbers header c.numbers-numbers.result c.numbers-numbers.ensures in
+    let kept = ap (λ (l : LayoutParts). first_broken (layout_rules l)) (sym stored) ∙ c.in-Ok.ensures.0 in
+    let stated = c.file_size-stated.ensures ∙ ap file_size (c.in-Ok.ensures.1 ∙ stored) in
+    layout_refusal-length header c.args.size (omega arith) (sym c.starts_with.ensures.value ∙ c.if-not-starts_with.false) one kept
+    (λ whole. c.if-size-stated.true (whole ∙ sym stated))
+    ∙ ap (λ (n : ℕ). Some (WrongLength n c.args.size)) (sym stated)
+
+pub returns-clause-exactly : goal.returns-clause-exactly
+returns-clause-exactly c =
+    let header = c.args.bytes.now in
+    let one = ap (λ (ns : List ℕ). slice_index ns 0) (sym c.numbers-numbers.ensures) ∙ c.if-version-ne-VERSION.false in
+    let stored = layout_in-numbers header c.numbers-numbers.result c.numbers-numbers.ensures in
+    let kept = ap (λ (l : LayoutParts). first_broken (layout_rules l)) (sym stored) ∙ c.in-Ok.ensures.0 in
+    let is_layout = c.in-Ok.ensures.1 ∙ stored in
+    let whole = c.if-size-stated.false ∙ c.file_size-stated.ensures ∙ ap file_size is_layout in
+    (layout_refusal-none header c.args.size (omega arith) (sym c.starts_with.ensures.value ∙ c.if-not-starts_with.false) one kept whole, is_layout)
