@@ -2,6 +2,6 @@ pub mod Rules
 pub mod Numbers
 pub mod Layouts
 pub mod Headers
-pub mod Lines
 pub mod Told
-pub mod Placed
+mod Writings
+mod Files

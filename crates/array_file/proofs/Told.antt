@@ -1,13 +1,12 @@
 -- What was read of a file, where its bytes are told.
-use Rattle.std.proofs.Common.{◌≡◌, ℕ, ◌+◌, ◌*◌, ◌≤◌, List, ◌++◌, length, take, min, sym, arith, Option, Some, None, Result, Ok, Err, is_err, false, OnOk, ap, ◌∙◌, subst}
-use Rattle.std.proofs.lemmas.List.{take_all, take_min, take-append-le}
+use Rattle.std.proofs.Common.{◌≡◌, ℕ, List, length, take, min, sym, Option, Some, None, Result, Ok, Err, is_err, false, OnOk, ap, ◌∙◌, subst}
+use Rattle.std.proofs.lemmas.List.{take_min}
 use Rattle.source_io.specs.Told.{Holds, SizeIs}
 use Rattle.source_io.specs.Asked.{Asks}
-use Rattle.grid_cells.specs.LayoutParts.{LayoutParts, line_layout}
+use Rattle.grid_cells.specs.LayoutParts.{LayoutParts}
 use Rattle.grid_cells.specs.declared.refusal.LayoutRefusal.{LayoutRefusal}
-use Rattle.array_file.specs.Header.{layout_refusal, stored_layout, file_size}
+use Rattle.array_file.specs.Header.{layout_refusal, stored_layout}
 use Rattle.array_file.specs.Reads.{ReadsHeader}
-use Rattle.array_file.proofs.Lines.{file_size-line}
 use Rattle.array_file.specs.declared.header.HeaderFault.TheVariants.{Refused}
 
 pub on_ok_then : {T E P : Type 0} (r : Result T E) → is_err r ≡ false → OnOk r P → P
@@ -35,17 +34,5 @@ accepted (Some all) header size n l is_size is_n held e same =
       same ∙ ap stored_layout front,
     )
 
--- what a slice of a vector shows after it was read into
-pub holds_slice : (told : Option (List ℕ)) (at n k m : ℕ) (into rest slice : List ℕ) → Holds told at k into → length into ≡ k → k ≡ m → m ≡ n → slice ≡ take m (into ++ rest) → Holds told at n slice
-holds_slice told at n k m into rest slice held long is_m is_n e =
-    let same : slice ≡ into = e ∙ take-append-le m into rest (omega arith) ∙ take_all m into (omega arith) in
-    subst (Holds told at n) (sym same) (subst (λ j. Holds told at j into) (is_m ∙ is_n) held)
-
 pub asks_to : (old new : Option (List (ℕ × ℕ))) (a b : ℕ) → a ≡ b → Asks old new 0 a → Asks old new 0 b
 asks_to old new a b e asked = subst (Asks old new 0) e asked
-
--- reads of the four bytes of each cell of a line ask for bytes of the file
-pub asks_cells : (old new : Option (List (ℕ × ℕ))) (l : LayoutParts) (n k : ℕ) → l ≡ line_layout n → 1 ≤ n → k ≡ 4 * n → Asks old new 96 (96 + k) → Asks old new 96 (file_size l)
-asks_cells old new l n k is_line some long asked =
-    let whole = ap file_size is_line ∙ file_size-line n some in
-    subst (λ end. Asks old new 96 end) (omega (arith, whole)) asked

@@ -1,3 +1,4 @@
 pub mod Header
 pub mod Stored
+pub mod Written
 pub mod Reads

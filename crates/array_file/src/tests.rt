@@ -1,7 +1,8 @@
 //! Small headers and files, with answers that were worked out by hand.
 mod accepted;
-mod cells;
 mod refused;
+mod sources;
+mod writing;
 
 use crate::read_layout;
 use byteorder::{ByteOrder, LittleEndian};

@@ -1,5 +1,5 @@
 -- The chunks and the blocks of a layout.
-use Rattle.std.specs.Prelude.{ℕ, ◌+◌, ◌==◌, ◌&&◌, nat_le, Bool, List, [], slice_index, slice_index_or}
+use Rattle.std.specs.Prelude.{ℕ, ◌+◌, List, [], slice_index_or}
 use Rattle.grid_cells.specs.Array.{coordinates_of}
 use Rattle.grid_cells.specs.LayoutParts.{LayoutParts, grid_of}
 use Rattle.grid_cells.specs.Numbers.{product}
@@ -64,12 +64,3 @@ block_above l level b = block_at l (level + 1) (tile_from l.extents (block_of l 
 -- in which chunk the first place of a block of level 0 lies
 abbrev pub chunk_around : LayoutParts → ℕ → ℕ
 chunk_around l b = chunk_at l (tile_from l.extents (block_of l 0) b)
-
--- ---- lines
-
--- one dimension in one chunk, with one level of one block
-abbrev pub is_line : LayoutParts → Bool
-is_line l =
-    l.rank == 1 && l.levels == 1 && nat_le (slice_index l.extents 0) 65536
-    && slice_index l.chunk 0 == slice_index l.extents 0
-    && slice_index (block_of l 0) 0 == slice_index l.extents 0

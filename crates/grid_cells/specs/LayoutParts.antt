@@ -10,16 +10,6 @@ pub record LayoutParts : Type 0 where
   pub levels : ℕ
   pub blocks : List (List ℕ)
 
--- the layout of a line of n cells: one dimension in one chunk, with one level of one block
-abbrev pub line_layout : ℕ → LayoutParts
-line_layout n = record {
-  rank = 1;
-  extents = n ∷ 1 ∷ 1 ∷ [];
-  chunk = n ∷ 1 ∷ 1 ∷ [];
-  levels = 1;
-  blocks = (n ∷ 1 ∷ 1 ∷ []) ∷ (0 ∷ 0 ∷ 0 ∷ []) ∷ (0 ∷ 0 ∷ 0 ∷ []) ∷ (0 ∷ 0 ∷ 0 ∷ []) ∷ [];
-}
-
 -- how many pieces of this length cover an extent
 abbrev pub pieces_of : ℕ → ℕ → ℕ
 pieces_of extent length = (extent + (length - 1)) / length

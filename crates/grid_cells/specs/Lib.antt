@@ -8,3 +8,5 @@ pub mod Tiles
 pub mod Chunks
 pub mod Rules
 pub mod Stated
+pub mod Boxes
+pub mod Placing

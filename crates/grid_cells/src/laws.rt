@@ -1,10 +1,13 @@
 //! What records and layouts are, in the words of the subject.
-ghost use Rattle.std.specs.Prelude.{◌≡◌, ◌<◌, ◌+◌, ℕ, List, ℤ, ◌++◌, sum_by, IsPermutation, true};
-ghost use Rattle.grid_cells.specs.Chunks.{chunk_count, chunk_rect, chunk_around, block_count, block_rect, block_above};
+ghost use Rattle.std.specs.Prelude.{◌≡◌, ◌<◌, ◌+◌, ℕ, List, ℤ, ◌++◌, length, slice_index_or, sum_by, IsPermutation, true};
+ghost use Rattle.grid_cells.specs.Chunks.{chunk_count, chunk_rect, chunk_of, place_in_chunk, chunk_around, block_count, block_rect, block_above};
 ghost use Rattle.grid_cells.specs.LayoutParts.{LayoutParts};
+ghost use Rattle.grid_cells.specs.Numbers.{product};
+ghost use Rattle.grid_cells.specs.Placing.{chunk_of_cells};
 ghost use Rattle.grid_cells.specs.Records.{record_of, merged};
 ghost use Rattle.grid_cells.specs.Rects.{holds_place, LiesInside};
 ghost use Rattle.grid_cells.specs.Rules.{IsLayout};
+ghost use Rattle.grid_cells.specs.declared.cell.Cell.{Cell};
 
 /// The record of the numbers of two lists is the merged one of their records. Source: own.
 pub fn record_of_both_is_merged()
@@ -41,4 +44,11 @@ pub fn blocks_lie_in_chunks()
         LiesInside (block_rect l 0 b) (chunk_rect l (chunk_around l b)) }
     ensures alone { (l : LayoutParts) (b n : ℕ) (at : List ℕ) → IsLayout l → b < block_count l 0 → n < chunk_count l →
         holds_place (block_rect l 0 b) at ≡ true → holds_place (chunk_rect l n) at ≡ true → n ≡ chunk_around l b }
+{}
+
+/// What is taken from an array is what is placed: at the place of each cell in its chunk, the chunk that is
+/// taken has that cell. Source: own.
+pub fn taken_chunks_have_each_cell()
+    ensures { (l : LayoutParts) (cells : List Cell) (k : ℕ) (d : Cell) → IsLayout l → length cells ≡ product l.extents → k < product l.extents →
+        slice_index_or (chunk_of_cells l cells (chunk_of l k)) (place_in_chunk l k) d ≡ slice_index_or cells k d }
 {}

@@ -1,7 +1,7 @@
 //! Layouts of arrays in chunks and blocks.
 ghost use Rattle.std.specs.Prelude.{◌≡◌, ◌≤◌, ◌<◌, true, Some, None, MatchResult};
 ghost use Rattle.grid_cells.specs.Chunks as chunks;
-ghost use Rattle.grid_cells.specs.LayoutParts.{LayoutParts, line_layout};
+ghost use Rattle.grid_cells.specs.LayoutParts.{LayoutParts};
 ghost use Rattle.grid_cells.specs.Numbers.{product};
 ghost use Rattle.grid_cells.specs.Rects.{is_place};
 ghost use Rattle.grid_cells.specs.Rules.{first_broken, layout_rules, IsLayout};
@@ -80,6 +80,7 @@ impl Layout {
     pub fn shape(&self) -> Shape
         ensures extents { result.extents ≡ self.now.extents }
         ensures few { product result.extents ≤ MOST_CELLS }
+        ensures rules { IsLayout self.now }
     {
         Shape {
             extents: self.extents,
@@ -109,11 +110,21 @@ impl Layout {
         self.blocks[level as usize]
     }
 
+    /// How many cells the array has. Source: own.
+    pub fn cells(&self) -> u32
+        ensures count { result ≡ product self.now.extents }
+        ensures some { 1 ≤ result }
+        ensures few { result ≤ MOST_CELLS }
+    {
+        product(&self.extents) as u32
+    }
+
     /// How many chunks there are. Source: own.
     pub fn chunks(&self) -> u32
         ensures count { result ≡ chunks.chunk_count self.now }
         ensures some { 1 ≤ result }
         ensures few { result ≤ MOST_CELLS }
+        ensures rules { IsLayout self.now }
     {
         tile_count(&self.extents, &self.chunk) as u32
     }
@@ -164,43 +175,5 @@ impl Layout {
         ensures { result ≡ chunks.block_rect self.now level block }
     {
         tiles::tile_rect(&self.extents, &self.blocks[level as usize], block)
-    }
-
-    /// Whether it is that of a line: one dimension in one chunk, with one level of one block. Source: own.
-    pub fn is_line(&self) -> bool
-        ensures { result ≡ chunks.is_line self.now }
-    {
-        let [n, _, _] = self.extents;
-        self.rank == 1
-            && self.levels == 1
-            && n <= MOST_CHUNK_CELLS
-            && self.chunk[0] == n
-            && self.blocks[0][0] == n
-    }
-
-    /// The layout of a line of so many cells. Source: own.
-    pub fn line(extent: u32) -> Layout
-        requires some { 1 ≤ extent }
-        requires few { extent ≤ MOST_CHUNK_CELLS }
-        ensures { result ≡ line_layout extent }
-    {
-        let line = [extent, 1, 1];
-        Layout {
-            rank: 1,
-            extents: line,
-            chunk: line,
-            levels: 1,
-            blocks: [line, [0; 3], [0; 3], [0; 3]],
-        }
-    }
-
-    /// How many cells a line has. Source: own.
-    pub fn extent(&self) -> u32
-        requires { chunks.is_line self.now ≡ true }
-        ensures line { self.now ≡ line_layout result }
-        ensures some { 1 ≤ result }
-        ensures few { result ≤ MOST_CHUNK_CELLS }
-    {
-        self.extents[0]
     }
 }

@@ -3,14 +3,17 @@
 //! Definitions: `specs/Array` (an array, a region's places and present cells), `specs/Numbers` (count, sum,
 //! least, greatest), `specs/Records` (records of numbers), `specs/Cells` (stored cells), `specs/Rects` and
 //! `specs/Tiles` (rectangles, and those of one size that cover an array), `specs/LayoutParts` and `specs/Chunks`
-//! (layouts as numbers, their chunks and blocks) and `specs/Rules` (the rules that a layout keeps, in their order).
+//! (layouts as numbers, their chunks and blocks), `specs/Placing` (the cells of chunks among those of the
+//! array), `specs/Boxes` (cells that are copied) and `specs/Rules` (the rules of a layout, in their order).
 #![tactic(auto)]
 
+mod boxes;
 pub mod cell;
 pub mod geometry;
 pub mod laws;
 pub mod layout;
 mod lengths;
+pub mod placing;
 pub mod record;
 pub mod rect;
 pub mod refusal;
@@ -18,6 +21,7 @@ pub mod region;
 pub mod shape;
 pub mod side;
 mod stated;
+pub mod taking;
 #[cfg(test)]
 mod tests;
 mod tiles;

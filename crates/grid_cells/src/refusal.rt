@@ -30,6 +30,4 @@ pub enum LayoutRefusal {
     TooManyBlocks,
     /// The size is not that of the header and the chunks, in bytes.
     WrongLength { stated: u64, found: u64 },
-    /// The file breaks a rule, or is not of the form that is read so far.
-    NotBuilt,
 }

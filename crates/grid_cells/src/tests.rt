@@ -318,7 +318,6 @@ fn refuses_too_many_blocks(rt: HostRuntime) {
 fn reads_a_line_in_two_chunks(rt: HostRuntime) {
     let levels = [[2, 1, 1], [4, 1, 1], NONE, NONE];
     let line = Layout::new(1, [8, 1, 1], [4, 1, 1], 2, levels).expect(&rt, "a layout");
-    assert!(rt; !line.is_line());
     assert_eq!(rt; line.chunks(), 2);
     assert_eq!(rt; line.chunk_cells(), 4);
     let second = Rect {
@@ -341,6 +340,7 @@ fn reads_a_line_in_two_chunks(rt: HostRuntime) {
 fn reads_a_plane_whose_last_chunks_are_cut(rt: HostRuntime) {
     let levels = [[1, 3, 1], NONE, NONE, NONE];
     let plane = Layout::new(2, [5, 7, 1], [2, 3, 1], 1, levels).expect(&rt, "a layout");
+    assert_eq!(rt; plane.cells(), 35);
     assert_eq!(rt; plane.chunks(), 9);
     assert_eq!(rt; plane.chunk_cells(), 6);
     let corner = Rect {
@@ -356,15 +356,15 @@ fn reads_a_plane_whose_last_chunks_are_cut(rt: HostRuntime) {
 
 #[test]
 fn reads_a_line_in_one_chunk(rt: HostRuntime) {
-    let line = Layout::line(8);
-    assert!(rt; line.is_line());
-    assert_eq!(rt; line.extent(), 8);
+    let levels = [[8, 1, 1], NONE, NONE, NONE];
+    let line = Layout::new(1, [8, 1, 1], [8, 1, 1], 1, levels).expect(&rt, "a layout");
     assert_eq!(rt; line.rank(), 1);
     assert_eq!(rt; line.shape().extents, [8, 1, 1]);
     assert_eq!(rt; line.chunk(), [8, 1, 1]);
     assert_eq!(rt; line.levels(), 1);
     assert_eq!(rt; line.block(0), [8, 1, 1]);
     assert_eq!(rt; line.block(3), [0, 0, 0]);
+    assert_eq!(rt; line.cells(), 8);
     assert_eq!(rt; line.chunks(), 1);
     assert_eq!(rt; line.chunk_cells(), 8);
 }

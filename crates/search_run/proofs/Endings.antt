@@ -15,7 +15,7 @@ use Rattle.search_run.specs.Ends.{EndsAs, Prints, PrintsWhole, PrintsFront, Says
 use Rattle.search_run.specs.Problem.{LoadsProblem}
 use Rattle.search_run.specs.declared.problem.Problem.{Problem}
 use Rattle.search_run.specs.declared.ending.Ending.{Ending}
-use Rattle.search_run.specs.declared.ending.Ending.TheVariants.{Done, Usage, ArrayRefused, QueryRefused, ReadFault, WriteFault, NoMemory}
+use Rattle.search_run.specs.declared.ending.Ending.TheVariants.{Done, Usage, ArrayRefused, TextRefused, QueryRefused, ReadFault, WriteFault, NoMemory}
 
 pub some_front : (whole told : Option (List ℕ)) → MatchOption whole (Unit {0}) (λ bytes. AppendsFront told bytes told)
 some_front None told = tt
@@ -26,6 +26,7 @@ pub prints_nothing : (array query whole told : Option (List ℕ)) (e : Ending) �
 prints_nothing array query whole told Done h = elim h [ ]
 prints_nothing array query whole told Usage h = elim h [ ]
 prints_nothing array query whole told (ArrayRefused r) h = refl
+prints_nothing array query whole told (TextRefused r) h = elim h [ ]
 prints_nothing array query whole told (QueryRefused r) h = refl
 prints_nothing array query whole told ReadFault h = some_front whole told
 prints_nothing array query whole told WriteFault h = elim h [ ]
@@ -38,6 +39,7 @@ ends_unloaded held array query Done h = elim h [ ]
 ends_unloaded held array query Usage h = elim h [ ]
 ends_unloaded None array query (ArrayRefused r) h = tt
 ends_unloaded (Some files) array query (ArrayRefused r) h = ap (λ o. option_map_or ArrayRefused o (query_verdict (query_on (bytes_at files array) (bytes_at files query)))) h
+ends_unloaded held array query (TextRefused r) h = elim h [ ]
 ends_unloaded None array query (QueryRefused r) h = tt
 ends_unloaded (Some files) array query (QueryRefused r) h =
     ap (λ o. option_map_or ArrayRefused o (query_verdict (query_on (bytes_at files array) (bytes_at files query)))) h.0 ∙ ap query_verdict h.1

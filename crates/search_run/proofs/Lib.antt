@@ -1,4 +1,4 @@
 pub mod Lines
-pub mod Commands
+pub mod Packing
 pub mod Endings
 pub mod Statuses

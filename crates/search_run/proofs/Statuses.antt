@@ -1,17 +1,18 @@
 -- From an ending to its status, and to what the files and the words determine.
-use Rattle.std.proofs.Common.{◌≡◌, ℕ, ◌≤◌, List, [], Option, Some, None, ◌⊎◌, ⊎_elim, ◌≢◌, inl, inr, sym, ap, ◌∙◌, subst, arith}
+use Rattle.std.proofs.Common.{◌≡◌, ℕ, ◌≤◌, List, [], Option, Some, None, inl, inr, sym, ap, ◌∙◌, subst, arith}
 use Rattle.source_io.specs.Written.{AppendsFront}
 use Rattle.source_io.proofs.Writing.{front_whole, front_nothing, front_of_nil, appended-nil}
 use Rattle.search_run.specs.Status.{status_of, message_of}
-use Rattle.search_run.specs.Ends.{EndsAs, Prints, PrintsWhole, PrintsFront, Says, IsStatus, IsStatusOrNoMemory}
+use Rattle.search_run.specs.Ends.{EndsAs, Prints, PrintsWhole, PrintsFront, Says, IsStatus}
 use Rattle.search_run.specs.declared.ending.Ending.{Ending}
-use Rattle.search_run.specs.declared.ending.Ending.TheVariants.{Done, Usage, ArrayRefused, QueryRefused, ReadFault, WriteFault, NoMemory}
+use Rattle.search_run.specs.declared.ending.Ending.TheVariants.{Done, Usage, ArrayRefused, TextRefused, QueryRefused, ReadFault, WriteFault, NoMemory}
 
 pub status_is : (told : Option Ending) (e : Ending) (s : ℕ) → s ≡ status_of e → EndsAs told e → IsStatus told s
 status_is None e s is h = tt
 status_is (Some verdict) Done s is h = inl (is ∙ ap status_of (sym h))
 status_is (Some verdict) Usage s is h = inl (is ∙ ap status_of (sym h))
 status_is (Some verdict) (ArrayRefused r) s is h = inl (is ∙ ap status_of (sym h))
+status_is (Some verdict) (TextRefused r) s is h = inl (is ∙ ap status_of (sym h))
 status_is (Some verdict) (QueryRefused r) s is h = inl (is ∙ ap status_of (sym h))
 status_is (Some verdict) ReadFault s is h = inr (omega arith)
 status_is (Some verdict) WriteFault s is h = inr (omega arith)
@@ -21,6 +22,7 @@ pub whole_is : (told : Option (List ℕ)) (e : Ending) (s : ℕ) (old new : Opti
 whole_is told Done s old new is h z = h
 whole_is told Usage s old new is h z = absurd (omega arith)
 whole_is told (ArrayRefused r) s old new is h z = absurd (omega arith)
+whole_is told (TextRefused r) s old new is h z = absurd (omega arith)
 whole_is told (QueryRefused r) s old new is h z = absurd (omega arith)
 whole_is told ReadFault s old new is h z = absurd (omega arith)
 whole_is told WriteFault s old new is h z = absurd (omega arith)
@@ -33,6 +35,7 @@ pub front_is : (told : Option (List ℕ)) (e : Ending) (old new : Option (List �
 front_is None Done old new h = tt
 front_is None Usage old new h = tt
 front_is None (ArrayRefused r) old new h = tt
+front_is None (TextRefused r) old new h = tt
 front_is None (QueryRefused r) old new h = tt
 front_is None ReadFault old new h = tt
 front_is None WriteFault old new h = tt
@@ -40,6 +43,7 @@ front_is None NoMemory old new h = tt
 front_is (Some bytes) Done old new h = front_whole old new bytes h
 front_is (Some bytes) Usage old new h = unchanged old new bytes h
 front_is (Some bytes) (ArrayRefused r) old new h = unchanged old new bytes h
+front_is (Some bytes) (TextRefused r) old new h = unchanged old new bytes h
 front_is (Some bytes) (QueryRefused r) old new h = unchanged old new bytes h
 front_is (Some bytes) ReadFault old new h = h
 front_is (Some bytes) WriteFault old new h = h
@@ -49,6 +53,7 @@ pub silent_is : (told : Option (List ℕ)) (e : Ending) (s : ℕ) (old new : Opt
 silent_is told Done s old new is h low high = absurd (omega arith)
 silent_is told Usage s old new is h low high = h
 silent_is told (ArrayRefused r) s old new is h low high = h
+silent_is told (TextRefused r) s old new is h low high = h
 silent_is told (QueryRefused r) s old new is h low high = h
 silent_is told ReadFault s old new is h low high = absurd (omega arith)
 silent_is told WriteFault s old new is h low high = absurd (omega arith)
@@ -63,17 +68,8 @@ pub quiet_is : (R : Type 0) (e : Ending) (s : ℕ) (old new : Option (List ℕ))
 quiet_is R Done s old new is h z = says_nothing R old new h
 quiet_is R Usage s old new is h z = absurd (omega arith)
 quiet_is R (ArrayRefused r) s old new is h z = absurd (omega arith)
+quiet_is R (TextRefused r) s old new is h z = absurd (omega arith)
 quiet_is R (QueryRefused r) s old new is h z = absurd (omega arith)
 quiet_is R ReadFault s old new is h z = absurd (omega arith)
 quiet_is R WriteFault s old new is h z = absurd (omega arith)
 quiet_is R NoMemory s old new is h z = absurd (omega arith)
-
--- with no count that rose, the status is that of the verdict, or of want of memory
-pub complete_is : (told : Option Ending) (s : ℕ) (opening reading writing : Type 0) → IsStatus told s → s ≤ 7 → (s ≡ 5 → opening ⊎ reading) → (s ≡ 6 → writing)
-    → ¬ opening → ¬ reading → ¬ writing → IsStatusOrNoMemory told s
-complete_is None s opening reading writing h known read_fault write_fault no_opening no_reading no_writing = tt
-complete_is (Some verdict) s opening reading writing (inl e) known read_fault write_fault no_opening no_reading no_writing = inl e
-complete_is (Some verdict) s opening reading writing (inr fault) known read_fault write_fault no_opening no_reading no_writing =
-    let not_5 : s ≢ 5 = λ e. ⊎_elim no_opening no_reading (read_fault e) in
-    let not_6 : s ≢ 6 = λ e. no_writing (write_fault e) in
-    inr (omega arith)

@@ -1,18 +1,21 @@
 -- The exit status and the line on the error stream that go with an ending.
 use Rattle.std.specs.Prelude.{ℕ, List, [], ◌++◌, decimal, codes}
 use Rattle.grid_cells.specs.declared.refusal.LayoutRefusal.{LayoutRefusal}
-use Rattle.grid_cells.specs.declared.refusal.LayoutRefusal.TheVariants.{Short, Magic, Version, Rank, Extent, TooManyCells, ChunkExtent, ChunkTooLarge, Levels, LevelExtent, CoarseGridTooLarge, TooManyBlocks, WrongLength, NotBuilt}
+use Rattle.grid_cells.specs.declared.refusal.LayoutRefusal.TheVariants.{Short, Magic, Version, Rank, Extent, TooManyCells, ChunkExtent, ChunkTooLarge, Levels, LevelExtent, CoarseGridTooLarge, TooManyBlocks, WrongLength}
+use Rattle.array_text.specs.declared.fault.TextRefusal.{TextRefusal}
+use Rattle.array_text.specs.declared.fault.TextRefusal.TheVariants as text
 use Rattle.query_text.specs.declared.place.Place.{Place}
 use Rattle.query_text.specs.declared.refusal.QueryRefusal.{QueryRefusal}
 use Rattle.query_text.specs.declared.refusal.QueryRefusal.TheVariants.{TooLong, NotJson, Shape, UnknownKey, Number, Name, Repeated, Unbound, Dimensions, TooMany, TooLarge}
 use Rattle.search_run.specs.declared.ending.Ending.{Ending}
-use Rattle.search_run.specs.declared.ending.Ending.TheVariants.{Done, Usage, ArrayRefused, QueryRefused, ReadFault, WriteFault, NoMemory}
+use Rattle.search_run.specs.declared.ending.Ending.TheVariants.{Done, Usage, ArrayRefused, TextRefused, QueryRefused, ReadFault, WriteFault, NoMemory}
 
 -- the exit status
 abbrev pub status_of : Ending → ℕ
 status_of Done = 0
 status_of Usage = 2
 status_of (ArrayRefused r) = 3
+status_of (TextRefused r) = 3
 status_of (QueryRefused r) = 4
 status_of ReadFault = 5
 status_of WriteFault = 6
@@ -33,7 +36,14 @@ array_refusal_text (LevelExtent level dim) = codes "10 LevelExtent " ++ decimal 
 array_refusal_text (CoarseGridTooLarge blocks) = codes "11 CoarseGridTooLarge " ++ decimal blocks
 array_refusal_text TooManyBlocks = codes "12 TooManyBlocks"
 array_refusal_text (WrongLength stated found) = codes "13 WrongLength " ++ decimal stated ++ codes " " ++ decimal found
-array_refusal_text NotBuilt = codes "14 NotBuilt"
+
+-- a refusal of an array text: its number, its name and its fields, or the refusal of its layout
+abbrev pub text_refusal_text : TextRefusal → List ℕ
+text_refusal_text (text.TooLong size) = codes "1 TooLong " ++ decimal size
+text_refusal_text (text.Word n) = codes "2 Word " ++ decimal n
+text_refusal_text (text.Missing n) = codes "3 Missing " ++ decimal n
+text_refusal_text (text.Extra n) = codes "4 Extra " ++ decimal n
+text_refusal_text (text.Layout r) = codes "5 Layout " ++ array_refusal_text r
 
 -- a place in a query: its four numbers, with full stops between them
 abbrev pub place_text : Place → List ℕ
@@ -58,6 +68,7 @@ abbrev pub message_of : Ending → List ℕ
 message_of Done = []
 message_of Usage = codes "searchlight: usage: searchlight COMMAND WORDS; commands: solo search rehearse verify pack info trial\n"
 message_of (ArrayRefused r) = codes "searchlight: array refused: " ++ array_refusal_text r ++ codes "\n"
+message_of (TextRefused r) = codes "searchlight: text refused: " ++ text_refusal_text r ++ codes "\n"
 message_of (QueryRefused r) = codes "searchlight: query refused: " ++ query_refusal_text r ++ codes "\n"
 message_of ReadFault = codes "searchlight: read fault\n"
 message_of WriteFault = codes "searchlight: write fault\n"

@@ -9,6 +9,8 @@ pub data Command : Type 0 where
   solo : (array query : List ℕ) → Command
   -- print them, always found by plain enumeration
   verify : (array query : List ℕ) → Command
+  -- make the array file of an array text
+  pack : (text array : List ℕ) → Command
 
 -- a word that begins with a dash
 abbrev pub is_option : List ℕ → Bool
@@ -27,4 +29,5 @@ abbrev pub command_in : List (List ℕ) → Option Command
 command_in words =
     if is_call (codes "solo") words then Some (solo (word_at words 1) (word_at words 2))
     else if is_call (codes "verify") words then Some (verify (word_at words 1) (word_at words 2))
+    else if is_call (codes "pack") words then Some (pack (word_at words 1) (word_at words 2))
     else None

@@ -1,4 +1,5 @@
 //! How a command ends.
+use array_text::TextRefusal;
 use grid_cells::LayoutRefusal;
 use query_text::QueryRefusal;
 
@@ -11,11 +12,13 @@ pub enum Ending {
     Usage,
     /// The array file is refused.
     ArrayRefused(LayoutRefusal),
+    /// The array text is refused.
+    TextRefused(TextRefusal),
     /// The query file is refused.
     QueryRefused(QueryRefusal),
-    /// A file was not opened or not read.
+    /// A file was not opened, not created or not read.
     ReadFault,
-    /// The output was not written.
+    /// The output, or the file that is made, was not written.
     WriteFault,
     /// Memory ran out.
     NoMemory,

@@ -5,12 +5,15 @@
 //! Until they have a crate of their own, solutions are printed (`print`) here.
 #![tactic(auto)]
 
+pub mod command;
 pub mod ending;
 pub mod line;
 pub mod load;
+pub mod pack;
 pub mod plain;
 pub mod print;
 pub mod problem;
+pub mod read_all;
 pub mod refusal_text;
 pub mod run;
 pub mod status;

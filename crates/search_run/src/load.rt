@@ -1,34 +1,18 @@
 //! Loads what a command works on from the shelf.
-ghost use Rattle.std.specs.Prelude.{◌≡◌, ◌<◌, ◌≤◌, ◌⊎◌, ◌^◌, IfOk, IfErr, OnOk, IsErrOf, ◌∷◌, []};
+ghost use Rattle.std.specs.Prelude.{◌≡◌, ◌<◌, ◌≤◌, ◌⊎◌, ◌^◌, OnOk, IsErrOf, ◌∷◌, []};
 ghost use Rattle.source_io.specs.Told.{Rose};
 ghost use Rattle.source_io.specs.Files.{file_of};
 ghost use Rattle.source_io.specs.Written.{appended, AppendsFront};
-ghost use Rattle.search_run.specs.Problem.{LoadsQuery, LoadsProblem, IsTold, IsOfReading};
+ghost use Rattle.search_run.specs.Problem.{LoadsQuery, LoadsProblem};
 
+use crate::read_all::read_all;
 use crate::{Ending, Problem};
-use array_file::{CellsFault, HeaderFault, read_cells, read_header};
-use grid_cells::LayoutRefusal;
+use array_file::{HeaderFault, read_header};
+use chunk_store::{CellsFault, read_cells};
 use query_model::Query;
 use query_text::{MOST_QUERY_BYTES, QueryFault, QueryRefusal, read_query};
-use source_io::{ByteSource, OpenFault, Shelf, read_whole};
+use source_io::{ByteSource, OpenFault, Shelf};
 use std::alloc::Global;
-
-/// Reads all bytes of a source.
-fn read_all<S: ByteSource>(alloc: Global, source: &mut S) -> Result<Vec<u8>, Ending>
-    ensures bytes { IfOk result (λ v. IsTold (S.bytes source.old) v.items) }
-    ensures kinds { IfErr result IsOfReading }
-    ensures cause { IsErrOf result Ending.ReadFault → Rose (S.faults source.old) (S.faults source.new) }
-    ensures faults { S.faults source.old ≤ S.faults source.new }
-{
-    let size = source.size();
-    let Ok(mut bytes) = vec![in alloc; 0; size as usize] else {
-        return Err(Ending::NoMemory);
-    };
-    if read_whole(source, 0, bytes.as_mut_slice()).is_err() {
-        return Err(Ending::ReadFault);
-    }
-    Ok(bytes)
-}
 
 /// The query that a source holds, for arrays of a rank. A file that is too long is refused and not read.
 fn query_from<S: ByteSource>(alloc: Global, rank: u8, source: &mut S) -> Result<Query, Ending>
@@ -67,6 +51,8 @@ fn load_query<F: Shelf>(alloc: Global, rank: u8, name: &str, shelf: &mut F) -> R
     ensures opened { AppendsFront (F.opened shelf.old) (name.now ∷ []) (F.opened shelf.new) }
     ensures lent { F.lent shelf.new ≡ F.lent shelf.old }
     ensures holds { F.holds shelf.new ≡ F.holds shelf.old }
+    ensures sink_faults { F.sink_faults shelf.new ≡ F.sink_faults shelf.old }
+    ensures making { F.making shelf.new ≡ F.making shelf.old }
 {
     let mut file = match shelf.open(name) {
         Ok(file) => file,
@@ -98,15 +84,14 @@ fn load_from<F: Shelf>(
     ensures opened { AppendsFront (F.opened shelf.old) (query.now ∷ []) (F.opened shelf.new) }
     ensures lent { F.lent shelf.new ≡ F.lent shelf.old }
     ensures holds { F.holds shelf.new ≡ F.holds shelf.old }
+    ensures sink_faults { F.sink_faults shelf.new ≡ F.sink_faults shelf.old }
+    ensures making { F.making shelf.new ≡ F.making shelf.old }
 {
     let layout = match read_header(array) {
         Ok(layout) => layout,
         Err(HeaderFault::Refused(refusal)) => return Err(Ending::ArrayRefused(refusal)),
         Err(HeaderFault::Read) => return Err(Ending::ReadFault),
     };
-    if !layout.is_line() {
-        return Err(Ending::ArrayRefused(LayoutRefusal::NotBuilt));
-    }
     let query = match load_query(alloc, layout.rank(), query, shelf) {
         Ok(query) => query,
         Err(ending) => return Err(ending),
@@ -140,6 +125,8 @@ pub fn load<F: Shelf>(
     ensures opened { AppendsFront (F.opened shelf.old) (array.now ∷ query.now ∷ []) (F.opened shelf.new) }
     ensures lent { F.lent shelf.new ≡ F.lent shelf.old }
     ensures holds { F.holds shelf.new ≡ F.holds shelf.old }
+    ensures sink_faults { F.sink_faults shelf.new ≡ F.sink_faults shelf.old }
+    ensures making { F.making shelf.new ≡ F.making shelf.old }
 {
     let mut source = match shelf.open(array) {
         Ok(source) => source,

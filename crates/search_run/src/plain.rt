@@ -35,6 +35,8 @@ pub fn list_solutions<F: Shelf, O: Sink>(
         F.opened shelf.new ≡ appended (F.opened shelf.old) (array.now ∷ query.now ∷ []) }
     ensures lent { F.lent shelf.new ≡ F.lent shelf.old }
     ensures holds { F.holds shelf.new ≡ F.holds shelf.old }
+    ensures sink_faults { F.sink_faults shelf.new ≡ F.sink_faults shelf.old }
+    ensures making { F.making shelf.new ≡ F.making shelf.old }
 {
     let problem = match load(alloc, array, query, shelf) {
         Ok(problem) => problem,

@@ -4,6 +4,7 @@ ghost use Rattle.search_run.specs.Status as status;
 ghost use Rattle.search_run.specs.Status.{place_text};
 
 use crate::line::Line;
+use array_text::TextRefusal;
 use grid_cells::LayoutRefusal;
 use query_text::{Place, QueryRefusal};
 
@@ -81,7 +82,30 @@ pub fn array_refusal_text(refusal: LayoutRefusal) -> Line
         LayoutRefusal::WrongLength { stated, found } => {
             words_numbers(b"13 WrongLength ", stated, found)
         }
-        LayoutRefusal::NotBuilt => words(b"14 NotBuilt"),
+    }
+}
+
+/// The number and the name of the refusal of a text for its layout, and the refusal of the layout.
+fn layout_refusal_text(refusal: LayoutRefusal) -> Line
+    ensures text { result ≡ codes "5 Layout " ++ status.array_refusal_text refusal }
+    ensures short { length result ≤ 300 }
+{
+    let mut line = words(b"5 Layout ");
+    line.push(array_refusal_text(refusal).as_bytes());
+    line
+}
+
+/// The number, the name and the fields of a refusal of an array text. Source: own.
+pub fn text_refusal_text(refusal: TextRefusal) -> Line
+    ensures text { result ≡ status.text_refusal_text refusal }
+    ensures short { length result ≤ 300 }
+{
+    match refusal {
+        TextRefusal::TooLong { size } => words_number(b"1 TooLong ", size),
+        TextRefusal::Word { n } => words_number(b"2 Word ", n),
+        TextRefusal::Missing { n } => words_number(b"3 Missing ", n),
+        TextRefusal::Extra { n } => words_number(b"4 Extra ", n),
+        TextRefusal::Layout(refusal) => layout_refusal_text(refusal),
     }
 }
 

@@ -1,12 +1,24 @@
 //! The top call.
-ghost use Rattle.std.specs.Prelude.{◌≡◌, ◌<◌, ◌≤◌, ◌^◌, ◌⊎◌, ◌↔◌, ◌||◌, None, codes};
+ghost use Rattle.std.specs.Prelude.{◌≡◌, ◌≢◌, ◌<◌, ◌≤◌, ◌^◌, ◌⊎◌, ◌↔◌, None};
 ghost use Rattle.source_io.specs.Told.{Rose};
 ghost use Rattle.source_io.specs.Written.{appended, AppendsFront};
-ghost use Rattle.search_run.specs.Words as meaning;
-ghost use Rattle.search_run.specs.Words.{is_call, command_in};
-ghost use Rattle.search_run.specs.Verdict.{texts_of, told_verdict, told_output, openings};
+ghost use Rattle.search_run.specs.Words.{command_in};
+ghost use Rattle.search_run.specs.Commands.{named};
+ghost use Rattle.search_run.specs.Verdict.{
+  told_command_verdict,
+  told_command_output,
+  told_command_file,
+  command_openings,
+  texts_of,
+  told_verdict,
+  told_output,
+  told_file,
+  openings,
+};
 ghost use Rattle.search_run.specs.Ends.{
   EndsAs,
+  MakesFile,
+  LeavesFile,
   Prints,
   PrintsWhole,
   PrintsFront,
@@ -16,68 +28,91 @@ ghost use Rattle.search_run.specs.Ends.{
 };
 
 use crate::Ending;
+use crate::command::{Command, read_words};
+use crate::pack::pack;
 use crate::plain::list_solutions;
 use crate::status::report;
 use source_io::{Shelf, Sink};
 use std::alloc::Global;
 
-/// Whether a word begins with a dash.
-fn is_option(word: &str) -> bool
-    ensures { result ≡ meaning.is_option word.now }
+/// Runs a command, and answers how it ended. It says nothing on the error stream.
+fn run_command<F: Shelf, O: Sink>(
+    alloc: Global,
+    command: Command<'_>,
+    shelf: &mut F,
+    out: &mut O,
+) -> Ending
+    requires lent { F.lent shelf.old < 2 ^ 16 }
+    requires making { F.making shelf.old ≡ None }
+    ensures verdict { EndsAs (told_command_verdict (F.holds shelf.old) (named command.entry)) result }
+    ensures output { Prints result (told_command_output (F.holds shelf.old) (named command.entry))
+        (O.written out.old) (O.written out.new) }
+    ensures made { result ≡ Ending.Done →
+        MakesFile (told_command_file (F.holds shelf.old) (named command.entry)) (F.holds shelf.old) (F.holds shelf.new) }
+    ensures left { LeavesFile (told_command_file (F.holds shelf.old) (named command.entry))
+        (F.holds shelf.old) (F.holds shelf.new) }
+    ensures unmade { result ≢ Ending.Done → result ≢ Ending.WriteFault → F.holds shelf.new ≡ F.holds shelf.old }
+    ensures read_fault { result ≡ Ending.ReadFault →
+        Rose (F.faults shelf.old) (F.faults shelf.new)
+        ⊎ Rose (F.source_faults shelf.old) (F.source_faults shelf.new) }
+    ensures write_fault { result ≡ Ending.WriteFault →
+        Rose (O.faults out.old) (O.faults out.new)
+        ⊎ Rose (F.sink_faults shelf.old) (F.sink_faults shelf.new) }
+    ensures words { result ≢ Ending.Usage }
+    ensures opened { AppendsFront (F.opened shelf.old) (command_openings (named command.entry)) (F.opened shelf.new) }
+    ensures all_opened { result ≡ Ending.Done →
+        F.opened shelf.new ≡ appended (F.opened shelf.old) (command_openings (named command.entry)) }
+    ensures lent { F.lent shelf.new ≡ F.lent shelf.old }
+    ensures making { F.making shelf.new ≡ F.making shelf.old }
 {
-    word.as_bytes().starts_with(b"-")
-}
-
-/// Whether the words are the name of a command and two words that are no options.
-fn is_call(name: &str, words: &[String]) -> bool
-    ensures { result ≡ meaning.is_call name.now (texts_of words.now) }
-{
-    words.len() == 3
-        && words[0].as_str() == name
-        && !is_option(words[1].as_str())
-        && !is_option(words[2].as_str())
-}
-
-/// Whether the words name a command that lists the solutions by plain enumeration.
-fn lists_plainly(words: &[String]) -> bool
-    ensures { result ≡ (is_call (codes "solo") (texts_of words.now) || is_call (codes "verify") (texts_of words.now)) }
-{
-    is_call("solo", words) || is_call("verify", words)
+    match command {
+        Command::Solo { array, query } => list_solutions(alloc, array, query, shelf, out),
+        Command::Verify { array, query } => list_solutions(alloc, array, query, shelf, out),
+        Command::Pack { text, array } => pack(alloc, text, array, shelf),
+    }
 }
 
 /// Runs the command that the words name, and answers how it ended. It says nothing on the error stream.
 #[tactic(auto, using(source_io::proofs::Writing::front_nothing))]
 fn run<F: Shelf, O: Sink>(alloc: Global, words: &[String], shelf: &mut F, out: &mut O) -> Ending
-    requires { F.lent shelf.old < 2 ^ 16 }
+    requires lent { F.lent shelf.old < 2 ^ 16 }
+    requires making { F.making shelf.old ≡ None }
     ensures verdict { EndsAs (told_verdict (F.holds shelf.old) words.now) result }
     ensures output { Prints result (told_output (F.holds shelf.old) words.now)
         (O.written out.old) (O.written out.new) }
+    ensures made { result ≡ Ending.Done →
+        MakesFile (told_file (F.holds shelf.old) words.now) (F.holds shelf.old) (F.holds shelf.new) }
+    ensures left { LeavesFile (told_file (F.holds shelf.old) words.now) (F.holds shelf.old) (F.holds shelf.new) }
+    ensures unmade { result ≢ Ending.Done → result ≢ Ending.WriteFault → F.holds shelf.new ≡ F.holds shelf.old }
     ensures read_fault { result ≡ Ending.ReadFault →
         Rose (F.faults shelf.old) (F.faults shelf.new)
         ⊎ Rose (F.source_faults shelf.old) (F.source_faults shelf.new) }
-    ensures write_fault { result ≡ Ending.WriteFault → Rose (O.faults out.old) (O.faults out.new) }
+    ensures write_fault { result ≡ Ending.WriteFault →
+        Rose (O.faults out.old) (O.faults out.new)
+        ⊎ Rose (F.sink_faults shelf.old) (F.sink_faults shelf.new) }
     ensures usage { (result ≡ Ending.Usage) ↔ (command_in (texts_of words.now) ≡ None) }
     ensures opened { AppendsFront (F.opened shelf.old) (openings (texts_of words.now)) (F.opened shelf.new) }
     ensures all_opened { result ≡ Ending.Done →
         F.opened shelf.new ≡ appended (F.opened shelf.old) (openings (texts_of words.now)) }
     ensures lent { F.lent shelf.new ≡ F.lent shelf.old }
-    ensures holds { F.holds shelf.new ≡ F.holds shelf.old }
+    ensures making { F.making shelf.new ≡ F.making shelf.old }
 {
-    if lists_plainly(words) {
-        list_solutions(alloc, words[1].as_str(), words[2].as_str(), shelf, out)
-    } else {
-        Ending::Usage
+    match read_words(words) {
+        Some(command) => run_command(alloc, command, shelf, out),
+        None => Ending::Usage,
     }
 }
 
-/// Runs the command that the words name on a shelf of files. It writes the command's output to `out`,
-/// says on `err` in one line what kept the output from being whole, and answers the exit status:
+/// Runs the command that the words name on a shelf of files. It writes the command's output to `out`, makes
+/// the command's file, says on `err` in one line what kept it from doing so, and answers the exit status:
 ///
-/// - 0: the output is whole.
-/// - 2: the words name no command; 3: the array file is refused; 4: the query file is refused. Each of
-///   these comes exactly where the words or the bytes show it, and nothing was then written to `out`.
-/// - 5: a file was not opened or not read, which a count of the shelf shows; 6: `out` was not written,
-///   which its count shows; 7: memory ran out. A front of the output was then written.
+/// - 0: the output is whole, and so is the file.
+/// - 2: the words name no command; 3: the array file or the array text is refused; 4: the query file is
+///   refused. Each of these comes exactly where the words or the bytes show it, and nothing was then
+///   written to `out`, and no file made.
+/// - 5: a file was not opened, not created or not read, which a count of the shelf shows; 6: `out` or the
+///   file was not written, which its count shows; 7: memory ran out. A front of the output was then written,
+///   and at 6 a front of the file.
 ///
 /// The clauses go by what the words and the told files determine, and it returns on all of them.
 /// Source: own.
@@ -88,7 +123,8 @@ pub fn run_tool<F: Shelf, O: Sink, E: Sink>(
     out: &mut O,
     err: &mut E,
 ) -> u8
-    requires { F.lent shelf.old < 2 ^ 16 }
+    requires lent { F.lent shelf.old < 2 ^ 16 }
+    requires making { F.making shelf.old ≡ None }
 
     // The status is that of the verdict, unless a fault or want of memory came first.
     ensures status { IsStatus (told_verdict (F.holds shelf.old) words.now) result }
@@ -110,18 +146,28 @@ pub fn run_tool<F: Shelf, O: Sink, E: Sink>(
     ensures read_fault { result ≡ 5 →
         Rose (F.faults shelf.old) (F.faults shelf.new)
         ⊎ Rose (F.source_faults shelf.old) (F.source_faults shelf.new) }
-    ensures write_fault { result ≡ 6 → Rose (O.faults out.old) (O.faults out.new) }
+    ensures write_fault { result ≡ 6 →
+        Rose (O.faults out.old) (O.faults out.new)
+        ⊎ Rose (F.sink_faults shelf.old) (F.sink_faults shelf.new) }
     ensures complete { ¬ Rose (F.faults shelf.old) (F.faults shelf.new)
         → ¬ Rose (F.source_faults shelf.old) (F.source_faults shelf.new)
+        → ¬ Rose (F.sink_faults shelf.old) (F.sink_faults shelf.new)
         → ¬ Rose (O.faults out.old) (O.faults out.new)
         → IsStatusOrNoMemory (told_verdict (F.holds shelf.old) words.now) result }
 
-    // It opens no other names than the command's, hands all back and changes no file.
+    // At 0 the files are as they were, with the command's file among them; at 6 a front of it may be there;
+    // and else nothing has changed.
+    ensures made { result ≡ 0 →
+        MakesFile (told_file (F.holds shelf.old) words.now) (F.holds shelf.old) (F.holds shelf.new) }
+    ensures left { LeavesFile (told_file (F.holds shelf.old) words.now) (F.holds shelf.old) (F.holds shelf.new) }
+    ensures unmade { result ≢ 0 → result ≢ 6 → F.holds shelf.new ≡ F.holds shelf.old }
+
+    // It opens and creates no other names than the command's, and hands all back.
     ensures opened { AppendsFront (F.opened shelf.old) (openings (texts_of words.now)) (F.opened shelf.new) }
     ensures all_opened { result ≡ 0 →
         F.opened shelf.new ≡ appended (F.opened shelf.old) (openings (texts_of words.now)) }
     ensures lent { F.lent shelf.new ≡ F.lent shelf.old }
-    ensures holds { F.holds shelf.new ≡ F.holds shelf.old }
+    ensures making { F.making shelf.new ≡ F.making shelf.old }
 {
     let ending = run(alloc, words, shelf, out);
     report(ending, err)

@@ -6,7 +6,8 @@ ghost use Rattle.search_run.specs.Status.{status_of, message_of};
 
 use crate::ending::Ending;
 use crate::line::Line;
-use crate::refusal_text::{array_refusal_text, query_refusal_text, words};
+use crate::refusal_text::{array_refusal_text, query_refusal_text, text_refusal_text, words};
+use array_text::TextRefusal;
 use grid_cells::LayoutRefusal;
 use query_text::QueryRefusal;
 use source_io::{Sink, write_whole};
@@ -17,6 +18,16 @@ fn array_refused(refusal: LayoutRefusal) -> Line
 {
     let mut line = words(b"searchlight: array refused: ");
     line.push(array_refusal_text(refusal).as_bytes());
+    line.push(b"\n");
+    line
+}
+
+/// The line of a refused array text.
+fn text_refused(refusal: TextRefusal) -> Line
+    ensures { result ≡ message_of (Ending.TextRefused refusal) }
+{
+    let mut line = words(b"searchlight: text refused: ");
+    line.push(text_refusal_text(refusal).as_bytes());
     line.push(b"\n");
     line
 }
@@ -40,7 +51,7 @@ impl Ending {
         match self {
             Ending::Done => 0,
             Ending::Usage => 2,
-            Ending::ArrayRefused(_) => 3,
+            Ending::ArrayRefused(_) | Ending::TextRefused(_) => 3,
             Ending::QueryRefused(_) => 4,
             Ending::ReadFault => 5,
             Ending::WriteFault => 6,
@@ -58,6 +69,7 @@ impl Ending {
                 b"searchlight: usage: searchlight COMMAND WORDS; commands: solo search rehearse verify pack info trial\n",
             ),
             Ending::ArrayRefused(refusal) => array_refused(refusal),
+            Ending::TextRefused(refusal) => text_refused(refusal),
             Ending::QueryRefused(refusal) => query_refused(refusal),
             Ending::ReadFault => words(b"searchlight: read fault\n"),
             Ending::WriteFault => words(b"searchlight: write fault\n"),

@@ -5,7 +5,10 @@
 
 mod fault_count;
 mod file_shelf;
+mod file_sink;
 mod file_source;
+mod one_write;
+mod read_ahead;
 mod stream_sink;
 mod tries;
 mod words;

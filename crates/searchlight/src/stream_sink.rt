@@ -1,12 +1,12 @@
 //! Standard output and standard error as sinks.
-ghost use Rattle.std.specs.Prelude.{◌≡◌, ◌<◌, ◌≤◌, length, take, None, IfSome, IfNone, IfOk, OnErr};
+ghost use Rattle.std.specs.Prelude.{◌≡◌, ◌<◌, ◌≤◌, length, take, None, IfOk, OnErr};
 ghost use Rattle.std.specs.Io.KnownBytes.{Keeps, Appends};
 ghost use Rattle.source_io.specs.Told.{Rose};
 
 use crate::fault_count::one_more;
-use crate::tries::TRIES;
+use crate::one_write::write_some;
 use source_io::{Failed, Sink};
-use std::io::{ErrorKind, Write};
+use std::io::Write;
 
 /// A stream that bytes go to, as `rt.stdout()` or `rt.stderr()`. As a sink it tells nothing of what it took.
 /// The writer hands on what it takes at once, as those two do: a buffer would hide a fault.
@@ -52,24 +52,6 @@ impl<W: Write> Sink for StreamSink<W> {
             }
         }
     }
-}
-
-/// One write, and how many bytes were taken; `None` where it was not done, and where no byte was taken.
-/// A write that a signal breaks off is tried again, `TRIES` times in all.
-fn write_some<W: Write>(writer: &mut W, piece: &[u8]) -> Option<usize>
-    ensures count { IfSome result (λ n. (0 < n) × (n ≤ length piece.now)) }
-    ensures taken { IfSome result (λ n. Appends (W.contents writer.old) (W.contents writer.new) (take n piece.now)) }
-    ensures kept { IfNone result (Keeps (W.contents writer.old) (W.contents writer.new)) }
-{
-    for _ in 0..TRIES {
-        match writer.write(piece) {
-            Ok(0) => return None,
-            Ok(n) => return Some(n),
-            Err(e) if e.kind() == ErrorKind::Interrupted => {}
-            Err(_) => return None,
-        }
-    }
-    None
 }
 
 #[cfg(test)]

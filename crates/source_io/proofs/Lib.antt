@@ -1,4 +1,5 @@
 pub mod Counting
 pub mod Finding
+pub mod Finishing
 pub mod Reading
 pub mod Writing

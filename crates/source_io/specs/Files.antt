@@ -1,9 +1,10 @@
 -- Files by their names, where they are told.
-use Rattle.std.specs.Prelude.{ℕ, List, [], Option, IsSome, IfSome, unwrap_or, option_map, String, string_bytes, Vec}
+use Rattle.std.specs.Prelude.{◌≡◌, ℕ, List, [], Option, Some, None, IsSome, IfSome, unwrap_or, option_map, String, string_bytes, Vec}
 use Rattle.std.specs.Prelude.{map as mapped}
 use Rattle.std.specs.FinMap as map
 use Rattle.std.specs.Ordering.{nat_cmp}
 use Rattle.std.specs.Cmp.Lexicographic.{slice_cmp}
+use Rattle.source_io.specs.Written.{IsFrontOf}
 
 -- finitely many names, and the bytes of each
 abbrev pub Files : Type 0
@@ -24,3 +25,16 @@ IsHeld told name = IfSome told (λ files. IsSome (map.get files name))
 -- the files of a list of names and bytes; of those with one name the first
 abbrev pub files_of : {A B : Type 0} → List (String A × Vec ℕ B) → Files
 files_of list = map.from_entries (mapped (λ file. (string_bytes file.0, file.1.items)) list)
+
+-- with these bytes under the name, where the files are told; the other files stay
+abbrev pub with_file : Option Files → List ℕ → List ℕ → Option Files
+with_file told name bytes = option_map (λ files. map.insert files name bytes) told
+
+-- with what was written under the name, where both are told
+abbrev pub with_written : Option Files → List ℕ → Option (List ℕ) → Option Files
+with_written told name (Some bytes) = with_file told name bytes
+with_written told name None = None
+
+-- a front of these bytes came under the name, where the files are told; the other files stayed
+abbrev pub HasFront : Option Files → List ℕ → List ℕ → Option Files → Type 0
+HasFront old name bytes new = (front : List ℕ) × IsFrontOf front bytes × (new ≡ with_file old name front)

@@ -56,6 +56,13 @@ impl MemSink {
     {
         self.faults
     }
+
+    /// The bytes that were written, in order, in the memory that they stand in.
+    pub(crate) fn into_bytes(self) -> Vec<u8>
+        ensures { ⟦<MemSink as Sink>⟧.written self ≡ Some result.items }
+    {
+        self.bytes
+    }
 }
 
 impl Sink for MemSink {

@@ -1,27 +1,27 @@
 //! Which calls of a shelf in memory, and of what it lends, fail.
-ghost use Rattle.std.specs.Prelude.{◌≡◌, []};
-ghost use Rattle.source_io.specs.Plan.{portion_of};
+ghost use Rattle.std.specs.Prelude.{◌≡◌, [], IfOk};
+ghost use Rattle.source_io.specs.Plan.{portion_of, writes_of};
 
-use std::alloc::Global;
+use std::alloc::{AllocError, Global};
 
 /// Which calls fail, and how much a call does. Source: own.
 #[derive(Drop)]
 pub struct Plan {
-    /// The openings that fail, by their numbers from 1.
+    /// The openings and creatings that fail, by their numbers from 1. Both are numbered together.
     pub opens: Vec<u64>,
     /// The reads that fail: the number of the opening, and the number of the read on it, each from 1.
     pub reads: Vec<(u64, u64)>,
-    /// The writes that fail: the number of the creating call, and the number of the write on it, each from 1.
-    /// A shelf creates no files so far, so they have no effect.
+    /// The writes that fail: the number of the creating, and the number of the write on it, each from 1.
     pub writes: Vec<(u64, u64)>,
     /// How many bytes a read or a write takes at most. 0 means all.
     pub step: usize,
-    /// How many reads a source can record.
+    /// How many reads a source can record, and how many bytes a created file can have.
     pub room: usize,
 }
 
 impl Plan {
-    /// A plan by which nothing fails, and each read and write takes all. A source can record `room` reads.
+    /// A plan by which nothing fails, and each read and write takes all. A source can record `room` reads,
+    /// and a created file can have `room` bytes.
     pub fn calm(alloc: Global, room: usize) -> Plan
         ensures opens { result.opens.items ≡ [] }
         ensures reads { result.reads.items ≡ [] }
@@ -36,6 +36,17 @@ impl Plan {
             step: 0,
             room,
         }
+    }
+
+    /// The writes that fail on what the creating of this number gives, by their numbers.
+    pub(crate) fn writes_on(&self, alloc: Global, creating: u64) -> Result<Vec<u64>, AllocError>
+        ensures { IfOk result (λ writes. writes.items ≡ writes_of creating self.now.writes.items) }
+    {
+        self.writes
+            .iter()
+            .filter(|write| write.0 == creating)
+            .map(|write| write.1)
+            .collect(alloc)
     }
 }
 

@@ -1,34 +1,45 @@
 //! Shelves of named files.
-ghost use Rattle.std.specs.Prelude.{◌≡◌, ℕ, ◌∷◌, [], ◌+◌, ◌-◌, ◌^◌, ◌<◌, ◌≤◌, List, Option, IfOk, IfSome, OnOk, OnErr, IsErrOf, min};
+ghost use Rattle.std.specs.Prelude.{◌≡◌, ℕ, ◌∷◌, [], ◌+◌, ◌-◌, ◌^◌, ◌<◌, ◌≤◌, List, Option, Some, None, IfOk, IfSome, OnOk, OnErr, IsErrOf, min};
 ghost use Rattle.source_io.specs.Told.{Rose};
 ghost use Rattle.source_io.specs.Asked.{Read, asked_under};
-ghost use Rattle.source_io.specs.Files.{Files, IsHeld, file_of};
+ghost use Rattle.source_io.specs.Files.{Files, IsHeld, file_of, with_written};
 ghost use Rattle.source_io.specs.Written.{appended};
 
-use crate::{ByteSource, OpenFault};
+use crate::{ByteSource, OpenFault, Sink};
 
-/// A place of named files. It lends sources, and each is handed back. Source: own.
+/// A place of named files. It lends sources, and each is handed back. It makes one file at a time: the
+/// sink of a created file takes the bytes, and the file stands on the shelf once it is finished.
+/// Source: own.
 pub trait Shelf {
     /// What it lends.
     type Source: ByteSource + Send;
 
+    /// What takes the bytes of a created file.
+    type Out: Sink;
+
     /// The files by their names, where they are told.
     ghost holds: { Self → Option Files };
 
-    /// How many openings were not done.
+    /// How many openings and creatings were not done.
     ghost faults: { Self → ℕ };
 
     /// How many reads were not done by the sources that were handed back.
     ghost source_faults: { Self → ℕ };
 
+    /// How many writes were not done by the sinks of the files that were finished.
+    ghost sink_faults: { Self → ℕ };
+
     /// Each recorded read of the sources that were handed back, with the name, where they are told.
     ghost asked: { Self → Option (List Read) };
 
-    /// The names that were opened, in order, also those where it failed, where they are told.
+    /// The names that were opened or created, in order, also those where it failed, where they are told.
     ghost opened: { Self → Option (List (List ℕ)) };
 
     /// How many sources are lent.
     ghost lent: { Self → ℕ };
+
+    /// The name of the file that was created and is not finished.
+    ghost making: { Self → Option (List ℕ) };
 
     /// Lends the file of a name. `Failed` where it was not opened, which the shelf counts; so where
     /// no file has the name. `NoMemory` leaves everything as it was.
@@ -47,7 +58,9 @@ pub trait Shelf {
         ensures faults { faults self.old ≤ faults self.new }
         ensures same_files { holds self.new ≡ holds self.old }
         ensures same_source_faults { source_faults self.new ≡ source_faults self.old }
-        ensures same_asked { asked self.new ≡ asked self.old };
+        ensures same_sink_faults { sink_faults self.new ≡ sink_faults self.old }
+        ensures same_asked { asked self.new ≡ asked self.old }
+        ensures same_making { making self.new ≡ making self.old };
 
     /// Takes a source back, with the count of its faults and the record of its reads.
     fn close(&mut self, source: Self::Source)
@@ -58,5 +71,42 @@ pub trait Shelf {
         ensures asked { asked self.new ≡ asked_under (Self.Source.opened_as source) (Self.Source.asked source) (asked self.old) }
         ensures same_files { holds self.new ≡ holds self.old }
         ensures same_faults { faults self.new ≡ faults self.old }
-        ensures same_opened { opened self.new ≡ opened self.old };
+        ensures same_sink_faults { sink_faults self.new ≡ sink_faults self.old }
+        ensures same_opened { opened self.new ≡ opened self.old }
+        ensures same_making { making self.new ≡ making self.old };
+
+    /// Begins a file of a name, and gives the sink that takes its bytes; where the shelf tells its files,
+    /// so does the sink what it took. The files stay as they are until it is finished. `Failed` where it
+    /// was not created, which the shelf counts. `NoMemory` leaves everything as it was.
+    fn create(&mut self, name: &str) -> Result<Self::Out, OpenFault>
+        requires { making self.old ≡ None }
+        ensures told { IfOk result (λ out. IfSome (holds self.old) (λ _. Self.Out.written out ≡ Some [])) }
+        ensures empty { IfOk result (λ out. IfSome (Self.Out.written out) (λ bytes. bytes ≡ [])) }
+        ensures fresh { IfOk result (λ out. Self.Out.faults out ≡ 0) }
+        ensures making { OnOk result (making self.new ≡ Some name.now) }
+        ensures not_making { OnErr result (making self.new ≡ None) }
+        ensures opened { OnOk result (opened self.new ≡ appended (opened self.old) (name.now ∷ [])) }
+        ensures failed { IsErrOf result OpenFault.Failed → opened self.new ≡ appended (opened self.old) (name.now ∷ []) }
+        ensures no_memory { IsErrOf result OpenFault.NoMemory → opened self.new ≡ opened self.old }
+        ensures cause { IsErrOf result OpenFault.Failed → Rose (faults self.old) (faults self.new) }
+        ensures faults { faults self.old ≤ faults self.new }
+        ensures same_files { holds self.new ≡ holds self.old }
+        ensures same_source_faults { source_faults self.new ≡ source_faults self.old }
+        ensures same_sink_faults { sink_faults self.new ≡ sink_faults self.old }
+        ensures same_asked { asked self.new ≡ asked self.old }
+        ensures same_lent { lent self.new ≡ lent self.old };
+
+    /// Ends the file that was created as `name`: what its sink took is what the shelf holds at the name,
+    /// in place of what it held there. The count of the sink's faults is added. It takes no memory.
+    fn finish(&mut self, name: &str, out: Self::Out)
+        requires { making self.old ≡ Some name.now }
+        ensures held { holds self.new ≡ with_written (holds self.old) name.now (Self.Out.written out) }
+        ensures making { making self.new ≡ None }
+        ensures sink_faults { sink_faults self.new ≡ min (sink_faults self.old + Self.Out.faults out) (2 ^ 64 - 1) }
+        ensures never_falls { sink_faults self.old ≤ sink_faults self.new }
+        ensures same_faults { faults self.new ≡ faults self.old }
+        ensures same_source_faults { source_faults self.new ≡ source_faults self.old }
+        ensures same_asked { asked self.new ≡ asked self.old }
+        ensures same_opened { opened self.new ≡ opened self.old }
+        ensures same_lent { lent self.new ≡ lent self.old };
 }

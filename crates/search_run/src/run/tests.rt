@@ -1,18 +1,24 @@
 //! Runs of the top call on files in memory. What they print is worked out by hand.
-ghost use Rattle.std.specs.Prelude.{◌≡◌, IfOk};
+ghost use Rattle.std.specs.Prelude.{◌≡◌, None, IfOk};
 
 use super::run_tool;
 use source_io::{MemShelf, MemSink, Plan, Shelf};
 use std::alloc::{AllocError, Global};
 use std::test::Fail;
 
+mod chunks;
 mod faults;
 mod forms;
+mod packing;
 mod windows;
 
 /// One dimension of 8 cells in one chunk with one level of one block: 3 -1 4 1 . 5 9 2.
 const EIGHT_CELLS: &[u8; 128] =
     b"SEARCHLIGHT\n\x01\0\0\0\x01\0\0\0\x08\0\0\0\x01\0\0\0\x01\0\0\0\x08\0\0\0\x01\0\0\0\x01\0\0\0\x01\0\0\0\x08\0\0\0\x01\0\0\0\x01\0\0\0\0\0\0\0\0\0\0\0\0\0\0\0\0\0\0\0\0\0\0\0\0\0\0\0\0\0\0\0\0\0\0\0\0\0\0\0\x03\0\0\0\xff\xff\xff\xff\x04\0\0\0\x01\0\0\0\0\0\0\x80\x05\0\0\0\x09\0\0\0\x02\0\0\0";
+
+/// The same eight cells in two chunks, with blocks of two cells and of four.
+const TWO_CHUNKS: &[u8; 128] =
+    b"SEARCHLIGHT\n\x01\0\0\0\x01\0\0\0\x08\0\0\0\x01\0\0\0\x01\0\0\0\x04\0\0\0\x01\0\0\0\x01\0\0\0\x02\0\0\0\x02\0\0\0\x01\0\0\0\x01\0\0\0\x04\0\0\0\x01\0\0\0\x01\0\0\0\0\0\0\0\0\0\0\0\0\0\0\0\0\0\0\0\0\0\0\0\0\0\0\0\x03\0\0\0\xff\xff\xff\xff\x04\0\0\0\x01\0\0\0\0\0\0\x80\x05\0\0\0\x09\0\0\0\x02\0\0\0";
 
 /// The commands that list all solutions, each on the files `a` and `q`.
 const LISTINGS: [&str; 2] = ["solo a q", "verify a q"];
@@ -34,7 +40,8 @@ const NO_MEMORY: &[u8; 23] = b"searchlight: no memory\n";
 
 /// A shelf that holds an array file `a` and a query file `q`.
 fn shelf_of(alloc: Global, array: &[u8], query: &str, plan: Plan) -> Result<MemShelf, AllocError>
-    ensures { IfOk result (λ shelf. ⟦<MemShelf as Shelf>⟧.lent shelf ≡ 0) }
+    ensures lent { IfOk result (λ shelf. ⟦<MemShelf as Shelf>⟧.lent shelf ≡ 0) }
+    ensures making { IfOk result (λ shelf. ⟦<MemShelf as Shelf>⟧.making shelf ≡ None) }
 {
     let mut files = Vec::new(alloc);
     files.push((
@@ -107,7 +114,8 @@ fn run_line(
     step: usize,
     fails: Vec<u64>,
 ) -> Result<Ran, Fail>
-    requires { ⟦<MemShelf as Shelf>⟧.lent shelf ≡ 0 }
+    requires lent { ⟦<MemShelf as Shelf>⟧.lent shelf ≡ 0 }
+    requires making { ⟦<MemShelf as Shelf>⟧.making shelf ≡ None }
 {
     let words = words_of(alloc, line)?;
     let mut out = MemSink::new(alloc, 1000, step, fails)?;
@@ -175,6 +183,11 @@ fn words_that_are_not_read_give_usage(rt: HostRuntime) -> Result<(), Fail> {
         "verify a q q",
         "verify -a q",
         "verify a --q",
+        "pack",
+        "pack t",
+        "pack t a a",
+        "pack -t a",
+        "pack t --a",
     ];
     for line in lines {
         let plan = Plan::calm(rt.alloc(), 100);

@@ -1,8 +1,8 @@
 //! The shelf over real files, which each test makes for itself and removes.
-ghost use Rattle.std.specs.Prelude.{◌≡◌, ◌^◌, ◌<◌};
+ghost use Rattle.std.specs.Prelude.{◌≡◌, ◌^◌, ◌<◌, None};
 
 use super::*;
-use source_io::{ByteSource, Failed, read_whole};
+use source_io::{ByteSource, Failed, read_whole, write_whole};
 use std::path::PathBuf;
 use std::test::Fail;
 use std::{env, process};
@@ -97,5 +97,80 @@ fn counts_a_read_of_a_file_that_became_shorter(rt: HostRuntime) -> Result<(), Fa
     assert_eq!(rt; past, Err(Failed));
     assert_eq!(rt; piece, after_short);
     assert_eq!(rt; (counted, shelf.source_faults, shelf.lent), (1, 1, 0));
+    Ok(())
+}
+
+/// Whether up to 4,096 bytes from a place on are read as they were written.
+fn reads_right<S: ByteSource>(source: &mut S, wrote: &[u8], at: usize) -> bool {
+    let mut piece = [0; 4096];
+    let wanted = piece.len().min(wrote.len().saturating_sub(at));
+    at as u64 + wanted as u64 <= source.size()
+        && read_whole(source, at as u64, &mut piece[..wanted]).is_ok()
+        && wrote.get(at..at + wanted) == Some(&piece[..wanted])
+}
+
+#[test]
+fn reads_on_and_elsewhere_give_the_bytes_of_their_places(rt: HostRuntime) -> Result<(), Fail> {
+    let path = own_path(&rt, "pieces")?;
+    let wrote = pattern(rt.alloc(), 150_000)?;
+    fs::write(&rt, path.as_str(), wrote.as_slice())?;
+    let mut shelf = FileShelf::new(rt, rt.alloc());
+    let mut source = shelf.open(path.as_str()).expect(&rt, "the file opens");
+    let mut right = true;
+
+    // One after the other, through several buffers full; back, into what was read ahead; to the end; elsewhere.
+    for at in [
+        0, 4096, 8192, 69000, 73096, 77192, 73100, 69000, 149_990, 143_000, 147_096, 5,
+    ] {
+        right = reads_right(&mut source, wrote.as_slice(), at) && right;
+    }
+    shelf.close(source);
+    fs::remove_file(&rt, path.as_str())?;
+
+    assert!(rt; right);
+    assert_eq!(rt; (shelf.faults, shelf.source_faults, shelf.lent), (0, 0, 0));
+    Ok(())
+}
+
+/// Creates a file, writes the bytes and finishes it. Whether all of them were written.
+fn keep(shelf: &mut FileShelf<HostRuntime>, name: &str, bytes: &[u8]) -> Result<bool, OpenFault>
+    requires { shelf.old.making ≡ None }
+    ensures { shelf.new.making ≡ None }
+{
+    let mut out = shelf.create(name)?;
+    let whole = write_whole(&mut out, bytes).is_ok();
+    shelf.finish(name, out);
+    Ok(whole)
+}
+
+#[test]
+fn makes_a_file_in_place_of_one_that_was_there(rt: HostRuntime) -> Result<(), Fail> {
+    let path = own_path(&rt, "made")?;
+    fs::write(&rt, path.as_str(), "these bytes are replaced")?;
+    let wrote = pattern(rt.alloc(), 150_000)?;
+
+    let mut shelf = FileShelf::new(rt, rt.alloc());
+    let short = keep(&mut shelf, path.as_str(), b"short");
+    let after_short = fs::read(&rt, path.as_str())?;
+    let long = keep(&mut shelf, path.as_str(), wrote.as_slice());
+    let after_long = fs::read(&rt, path.as_str())?;
+    fs::remove_file(&rt, path.as_str())?;
+
+    assert_eq!(rt; (short, long), (Ok(true), Ok(true)));
+    assert_eq!(rt; after_short.as_slice(), b"short".as_slice());
+    assert_eq!(rt; after_long.as_slice(), wrote.as_slice());
+    assert_eq!(rt; (shelf.faults, shelf.sink_faults), (0, 0));
+    Ok(())
+}
+
+#[test]
+fn counts_what_was_not_created_or_not_written(rt: HostRuntime) -> Result<(), Fail> {
+    let folder = env::temp_dir(&rt)?;
+    let mut shelf = FileShelf::new(rt, rt.alloc());
+    let refused = keep(&mut shelf, folder.as_str(), b"bytes");
+    assert_eq!(rt; refused, Err(OpenFault::Failed));
+    assert_eq!(rt; (shelf.faults, shelf.sink_faults), (1, 0));
+    assert_eq!(rt; keep(&mut shelf, "/dev/full", b"bytes"), Ok(false));
+    assert_eq!(rt; (shelf.faults, shelf.sink_faults), (1, 1));
     Ok(())
 }

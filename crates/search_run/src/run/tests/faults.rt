@@ -2,10 +2,10 @@
 
 use super::*;
 
-/// Runs `solo a q` on the eight cells by this plan, with an output that takes `step` bytes a write and in
+/// Runs `solo a q` on the eight cells in two chunks by this plan, with an output that takes `step` bytes a write and in
 /// which these writes fail.
 fn run_by_plan(alloc: Global, plan: Plan, step: usize, fails: Vec<u64>) -> Result<Ran, Fail> {
-    let shelf = shelf_of(alloc, EIGHT_CELLS, AT_LEAST_NINE, plan)?;
+    let shelf = shelf_of(alloc, TWO_CHUNKS, AT_LEAST_NINE, plan)?;
     run_line(alloc, "solo a q", shelf, step, fails)
 }
 
@@ -43,24 +43,34 @@ fn a_file_that_is_not_opened_is_a_read_fault(rt: HostRuntime) -> Result<(), Fail
 
 #[test]
 fn each_read_that_fails_is_a_read_fault(rt: HostRuntime) -> Result<(), Fail> {
-    // By 16 bytes a read: 6 reads of the header and 2 of the cells; 10 of the query, which has 150 bytes.
-    for (opening, reads, no_read) in [(1, 8, 9), (2, 10, 11)] {
+    // How many bytes a read takes, where 0 means all, the opening, and how many reads there are of it. In all:
+    // 1 read of the header and 1 of each chunk; 1 of the query. By 16 bytes: 6 of the header and 1 of each chunk;
+    // 10 of the query, which has 150 bytes. By 5: 20 of the header and 4 of each chunk; 30 of the query.
+    let cases = [
+        (0, 1, 3, 4),
+        (0, 2, 1, 2),
+        (16, 1, 8, 9),
+        (16, 2, 10, 11),
+        (5, 1, 28, 29),
+        (5, 2, 30, 31),
+    ];
+    for (step, opening, reads, no_read) in cases {
         for read in 1..=reads {
-            let plan = one_read_fails(rt.alloc(), 16, opening, read)?;
+            let plan = one_read_fails(rt.alloc(), step, opening, read)?;
             let ran = run_by_plan(rt.alloc(), plan, 0, Vec::new(rt.alloc()))?;
             assert_eq!(rt;
                 ran.shows(),
                 (5, b"".as_slice(), READ_FAULT.as_slice()),
-                "read {read} of {opening}"
+                "read {read} of {opening} by {step}"
             );
             assert_eq!(rt; (ran.shelf.lent(), ran.shelf.source_faults()), (0, 1));
         }
-        let plan = one_read_fails(rt.alloc(), 16, opening, no_read)?;
+        let plan = one_read_fails(rt.alloc(), step, opening, no_read)?;
         let ran = run_by_plan(rt.alloc(), plan, 0, Vec::new(rt.alloc()))?;
         assert_eq!(rt;
             ran.shows(),
             (0, BOTH_LINES.as_slice(), b"".as_slice()),
-            "after the reads of {opening}"
+            "after the reads of {opening} by {step}"
         );
     }
     Ok(())
@@ -104,11 +114,11 @@ fn short_reads_and_writes_change_nothing(rt: HostRuntime) -> Result<(), Fail> {
 
 #[test]
 fn reads_the_header_then_the_query_then_the_cells(rt: HostRuntime) -> Result<(), Fail> {
-    let ran = solo(rt.alloc(), EIGHT_CELLS, AT_LEAST_NINE)?;
+    let ran = solo(rt.alloc(), TWO_CHUNKS, AT_LEAST_NINE)?;
     let [query, array] = ran.shelf.returned() else {
         panic!(rt; "two files came back");
     };
-    assert_eq!(rt; array.asked(), [(0, 96), (96, 32)].as_slice());
+    assert_eq!(rt; array.asked(), [(0, 96), (96, 16), (112, 16)].as_slice());
     assert_eq!(rt; query.asked(), [(0, 150)].as_slice());
     Ok(())
 }

@@ -95,11 +95,13 @@ fn lists_the_windows_of_the_eight_cells(rt: HostRuntime) -> Result<(), Fail> {
             "x=3 w=1\nx=3 w=2\nx=3 w=3\n",
         ),
     ];
-    for line in LISTINGS {
-        for row in &rows {
-            let query = query_of(rt.alloc(), row)?;
-            let ran = run_calm(rt.alloc(), line, EIGHT_CELLS, query.as_str())?;
-            assert!(rt; ran.printed(row.4), "{line}: {query}");
+    for array in [EIGHT_CELLS, TWO_CHUNKS] {
+        for line in LISTINGS {
+            for row in &rows {
+                let query = query_of(rt.alloc(), row)?;
+                let ran = run_calm(rt.alloc(), line, array, query.as_str())?;
+                assert!(rt; ran.printed(row.4), "{line}: {query}");
+            }
         }
     }
     Ok(())

@@ -1,0 +1,115 @@
+//! Whole array files, as they are written.
+ghost use Rattle.std.specs.Prelude.{◌≡◌, ◌+◌, ◌*◌, ◌≤◌, length, OnErr};
+ghost use Rattle.source_io.specs.Told.{Rose};
+ghost use Rattle.source_io.specs.Written.{Writes};
+ghost use Rattle.grid_cells.specs.Numbers.{product};
+ghost use Rattle.grid_cells.specs.Chunks.{chunk_count};
+ghost use Rattle.array_file.specs.Written.{bytes_of_cells, bytes_of_chunks, array_bytes};
+
+use crate::{HEADER_BYTES, write_layout};
+use byteorder::{ByteOrder, LittleEndian};
+use grid_cells::{Cell, Layout, MOST_CHUNK_CELLS};
+use source_io::{Failed, Sink, write_whole};
+
+/// How many cells are written at a time.
+const PIECE_CELLS: usize = 16384;
+
+/// How many bytes they have.
+const PIECE_BYTES: usize = 65536;
+
+/// How many cells a chunk has at most.
+const CHUNK_ROOM: usize = MOST_CHUNK_CELLS as usize;
+
+/// Puts the bytes of the cells in place of those that are there.
+fn put_bytes(cells: &[Cell], bytes: &mut [u8])
+    requires { length bytes.old ≡ 4 * length cells.now }
+    ensures { bytes.new ≡ bytes_of_cells cells.now }
+{
+    for k in 0..cells.len() {
+        LittleEndian::write_i32(&mut bytes[4 * k..4 * k + 4], cells[k].0);
+    }
+}
+
+/// Writes cells, at most a piece.
+fn write_piece<K: Sink>(
+    cells: &[Cell],
+    bytes: &mut [u8; PIECE_BYTES],
+    sink: &mut K,
+) -> Result<(), Failed>
+    requires { length cells.now ≤ PIECE_CELLS }
+    ensures written { Writes result (bytes_of_cells cells.now) (K.written sink.old) (K.written sink.new) }
+    ensures cause { OnErr result (Rose (K.faults sink.old) (K.faults sink.new)) }
+    ensures faults { K.faults sink.old ≤ K.faults sink.new }
+{
+    let piece = &mut bytes[..4 * cells.len()];
+    put_bytes(cells, piece);
+    write_whole(sink, piece)
+}
+
+/// Writes cells, piece by piece.
+fn write_cells<K: Sink>(
+    cells: &[Cell],
+    bytes: &mut [u8; PIECE_BYTES],
+    sink: &mut K,
+) -> Result<(), Failed>
+    ensures written { Writes result (bytes_of_cells cells.now) (K.written sink.old) (K.written sink.new) }
+    ensures cause { OnErr result (Rose (K.faults sink.old) (K.faults sink.new)) }
+    ensures faults { K.faults sink.old ≤ K.faults sink.new }
+{
+    let mut done = 0;
+    while done < cells.len() {
+        let n = PIECE_CELLS.min(cells.len() - done);
+        write_piece(&cells[done..done + n], bytes, sink)?;
+        done += n;
+    }
+    Ok(())
+}
+
+/// Writes the chunks of an array with these cells, in order. There is room for the cells of a chunk and for the
+/// bytes of a piece.
+fn write_each<K: Sink>(
+    layout: &Layout,
+    cells: &[Cell],
+    room: &mut [Cell; CHUNK_ROOM],
+    bytes: &mut [u8; PIECE_BYTES],
+    sink: &mut K,
+) -> Result<(), Failed>
+    requires { length cells.now ≡ product layout.now.extents }
+    ensures written { Writes result (bytes_of_chunks layout.now cells.now (chunk_count layout.now)) (K.written sink.old) (K.written sink.new) }
+    ensures cause { OnErr result (Rose (K.faults sink.old) (K.faults sink.new)) }
+    ensures faults { K.faults sink.old ≤ K.faults sink.new }
+{
+    let chunk = &mut room[..layout.chunk_cells() as usize];
+    for n in 0..layout.chunks() {
+        layout.take_chunk(n, cells, chunk);
+        write_cells(chunk, bytes, sink)?;
+    }
+    Ok(())
+}
+
+/// Writes the chunks of an array with these cells, in order.
+fn write_chunks<K: Sink>(layout: &Layout, cells: &[Cell], sink: &mut K) -> Result<(), Failed>
+    requires { length cells.now ≡ product layout.now.extents }
+    ensures written { Writes result (bytes_of_chunks layout.now cells.now (chunk_count layout.now)) (K.written sink.old) (K.written sink.new) }
+    ensures cause { OnErr result (Rose (K.faults sink.old) (K.faults sink.new)) }
+    ensures faults { K.faults sink.old ≤ K.faults sink.new }
+{
+    let mut room = [Cell(0); CHUNK_ROOM];
+    let mut bytes = [0; PIECE_BYTES];
+    write_each(layout, cells, &mut room, &mut bytes, sink)
+}
+
+/// Writes the array file of a layout and its cells, which are in row-major order. Where a chunk sticks out of
+/// the array it has empty cells. `Failed` where the sink counted a fault; a front of the file was then
+/// written. It takes no memory. Source: own.
+pub fn write_array<K: Sink>(layout: &Layout, cells: &[Cell], sink: &mut K) -> Result<(), Failed>
+    requires { length cells.now ≡ product layout.now.extents }
+    ensures written { Writes result (array_bytes layout.now cells.now) (K.written sink.old) (K.written sink.new) }
+    ensures cause { OnErr result (Rose (K.faults sink.old) (K.faults sink.new)) }
+    ensures faults { K.faults sink.old ≤ K.faults sink.new }
+{
+    let mut header = [0; HEADER_BYTES];
+    write_layout(layout, &mut header);
+    write_whole(sink, &header)?;
+    write_chunks(layout, cells, sink)
+}

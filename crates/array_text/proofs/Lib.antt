@@ -1,0 +1,6 @@
+pub mod Fronts
+pub mod Digits
+pub mod Leading
+pub mod Levels
+pub mod WordLaws
+pub mod WrittenNumbers

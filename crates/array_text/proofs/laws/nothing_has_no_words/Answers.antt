@@ -1,0 +1,5 @@
+use Rattle.array_text.proofs.Fronts.{words-none}
+use Rattle.array_text.proofs.laws.nothing_has_no_words.Goals as goal
+
+pub returns : goal.returns
+returns c = words-none

@@ -1,0 +1,38 @@
+//! Why an array text is not read.
+ghost use Rattle.std.specs.Prelude.{◌≡◌};
+ghost use Rattle.array_text.specs.declared.fault.TextFault.TheVariants.{Refused};
+
+use grid_cells::LayoutRefusal;
+
+/// Why the words of a text do not state an array: the first fault on the way through them, which
+/// `docs/ARRAY-TEXT.md` states. Words count from 1. Source: own.
+#[derive(Clone, Copy, Debug, PartialEq, Eq)]
+pub enum TextRefusal {
+    /// The text has too many bytes; none of them was looked at.
+    TooLong { size: u64 },
+    /// Word n is not what its place allows.
+    Word { n: u64 },
+    /// Word n is needed, and the text has fewer.
+    Missing { n: u64 },
+    /// Word n stands behind the last cell.
+    Extra { n: u64 },
+    /// The layout breaks a rule.
+    Layout(LayoutRefusal),
+}
+
+/// Why no array was read. Source: own.
+#[derive(Clone, Copy, Debug, PartialEq, Eq)]
+pub enum TextFault {
+    /// The text shows it.
+    Refused(TextRefusal),
+    /// Memory ran out.
+    NoMemory,
+}
+
+impl From<TextRefusal> for TextFault {
+    ghost from_gives = { λ r e. e ≡ Refused r };
+
+    fn from(refusal: TextRefusal) -> TextFault {
+        TextFault::Refused(refusal)
+    }
+}

@@ -1,0 +1,99 @@
+//! Reading an array text.
+ghost use Rattle.std.specs.Prelude.{◌≡◌, ◌≤◌, ◌^◌, length, IfOk};
+ghost use Rattle.grid_cells.specs.Numbers.{product};
+ghost use Rattle.grid_cells.specs.Rules.{first_broken, layout_rules};
+ghost use Rattle.array_text.specs.Reads.{Gives, Shows, rest_of, parts_of};
+ghost use Rattle.array_text.specs.Words.{words};
+ghost use Rattle.array_text.specs.Walk as walk;
+
+use crate::bytes::skip_blanks;
+use crate::cells::read_cells;
+use crate::layout::{Numbers, read_layout};
+use crate::text::Text;
+use crate::{TextFault, TextRefusal};
+use grid_cells::{Cell, Layout};
+use std::alloc::Global;
+
+/// How many bytes an array text has at most. Source: own.
+pub const MOST_TEXT_BYTES: usize = 1073741824;
+
+/// What an array text states: the layout, and a cell for each place of the array, in row-major order.
+/// Source: own.
+#[derive(Debug, Drop)]
+pub struct ArrayText {
+    /// The layout.
+    pub layout: Layout,
+    /// The cells.
+    pub cells: Vec<Cell>,
+}
+
+/// The layout with these numbers, or the first rule that they break.
+fn layout_of(numbers: &Numbers) -> Result<Layout, TextRefusal>
+    ensures walk { Shows (λ _. tt) (walk.unless_broken (first_broken (layout_rules (parts_of numbers.now)))) result }
+    ensures layout { IfOk result (λ l. l ≡ parts_of numbers.now) }
+{
+    let levels = numbers.levels;
+    let made = Layout::new(
+        numbers.rank,
+        numbers.extents,
+        numbers.chunk,
+        levels.count,
+        levels.blocks,
+    );
+    match made {
+        Ok(layout) => Ok(layout),
+        Err(refusal) => Err(TextRefusal::Layout(refusal)),
+    }
+}
+
+/// That no word is left.
+fn check_end(text: Text<'_>) -> Result<(), TextRefusal>
+    ensures { Shows (λ _. tt) (walk.end_from text.entry.next (words text.entry.bytes.now)) result }
+{
+    let bytes = skip_blanks(text.bytes);
+    if bytes.is_empty() {
+        Ok(())
+    } else {
+        Err(TextRefusal::Extra { n: text.next })
+    }
+}
+
+/// Reads the cells of a layout, and the end behind them.
+#[tactic(auto, unfolding(crate::specs::Walk::array_from))]
+fn read_array(alloc: Global, numbers: &Numbers, text: Text<'_>) -> Result<ArrayText, TextFault>
+    ensures exactly { Gives (λ a. (a.layout, a.cells.items)) (walk.array_from (parts_of numbers.now) (rest_of text.entry.next text.entry.bytes.now)) result }
+    ensures count { IfOk result (λ a. length a.cells.items ≡ product a.layout.extents) }
+{
+    let layout = layout_of(numbers)?;
+    let (cells, text) = read_cells(alloc, text, layout.cells())?;
+    check_end(text)?;
+    Ok(ArrayText { layout, cells })
+}
+
+/// Reads the array that a text of not too many bytes states.
+#[tactic(auto, unfolding(crate::specs::Walk::read_words))]
+fn read_short_text(alloc: Global, bytes: &[u8]) -> Result<ArrayText, TextFault>
+    requires { length bytes.now ≤ 2 ^ 30 }
+    ensures exactly { Gives (λ a. (a.layout, a.cells.items)) (walk.read_words (words bytes.now)) result }
+    ensures count { IfOk result (λ a. length a.cells.items ≡ product a.layout.extents) }
+{
+    let text = Text { bytes, next: 1 };
+    let (numbers, text) = read_layout(text)?;
+    read_array(alloc, &numbers, text)
+}
+
+/// Reads the array that a text states: its layout and its cells in row-major order. `Refused` exactly where
+/// the text breaks its grammar or the layout its rules, with the first refusal on the way through the words;
+/// `NoMemory` where memory ran out. Source: own.
+#[tactic(auto, unfolding(crate::specs::Walk::stated_array))]
+pub fn read_array_text(alloc: Global, bytes: &[u8]) -> Result<ArrayText, TextFault>
+    ensures exactly { Gives (λ a. (a.layout, a.cells.items)) (walk.stated_array bytes.now) result }
+    ensures count { IfOk result (λ a. length a.cells.items ≡ product a.layout.extents) }
+{
+    if bytes.len() > MOST_TEXT_BYTES {
+        return Err(TextFault::Refused(TextRefusal::TooLong {
+            size: bytes.len() as u64,
+        }));
+    }
+    read_short_text(alloc, bytes)
+}

@@ -1,0 +1,126 @@
+//! The number or the cell that a word writes, read with the word.
+ghost use Rattle.std.specs.Prelude.{◌≡◌, ◌+◌, ◌<◌, ◌≤◌, ◌∷◌, length, drop, option_map, IfSome, MatchOption};
+ghost use Rattle.array_text.specs.Words.{first_word, behind_word};
+ghost use Rattle.array_text.specs.Numbers.{digit_of, number_written, number_up_to, digits_from, cell_of, positive_cell};
+ghost use Rattle.array_text.specs.Reads.{leading};
+
+use crate::bytes::is_blank;
+use grid_cells::Cell;
+
+/// How many digits a number has at most.
+const MOST_DIGITS: usize = 10;
+
+/// How far a cell's number is from 0 at most.
+const MOST_CELL: u32 = 2147483647;
+
+/// The empty cell.
+const EMPTY: Cell = Cell(i32::MIN);
+
+/// The number that the first word writes, where it does and is not above the most, and the bytes behind it.
+pub(crate) fn leading_number(bytes: &[u8], most: u32) -> Option<(u32, &[u8])>
+    ensures number { option_map (λ r. (r.0, r.1.now)) result ≡ leading (number_up_to most) bytes.now }
+    ensures few { IfSome result (λ r. r.0 ≤ most) }
+    ensures shorter { IfSome result (λ r. length r.1.now < length bytes.now) }
+{
+    let Some((value, count)) = leading_digits(bytes) else {
+        return None;
+    };
+    if count == 0 {
+        return None;
+    }
+    if value > u64::from(most) {
+        return None;
+    }
+    Some((value as u32, &bytes[count..]))
+}
+
+/// What a digit counts.
+fn digit(b: u8) -> Option<u8>
+    ensures digit { result ≡ digit_of b }
+    ensures few { IfSome result (λ d. d < 10) }
+{
+    if b.is_ascii_digit() {
+        Some(b - b'0')
+    } else {
+        None
+    }
+}
+
+/// The number that the first word writes by up to ten digits, and how many these are.
+fn leading_digits(bytes: &[u8]) -> Option<(u64, usize)>
+    ensures digits { MatchOption result (number_written (first_word bytes.now) ≡ None)
+        (λ r. digits_from 0 (first_word bytes.now) ≡ Some r.0) }
+    ensures count { IfSome result (λ r. r.1 ≡ length (first_word bytes.now)) }
+    ensures few { IfSome result (λ r. r.1 ≤ 10) }
+    ensures fits { IfSome result (λ r. r.1 ≤ length bytes.now) }
+    ensures behind { IfSome result (λ r. behind_word bytes.now ≡ drop r.1 bytes.now) }
+{
+    let mut value = 0;
+    for (i, b) in bytes.iter().enumerate() {
+        if is_blank(*b) {
+            return Some((value, i));
+        }
+        if i == MOST_DIGITS {
+            return None;
+        }
+        let Some(d) = digit(*b) else {
+            return None;
+        };
+        value = 10 * value + u64::from(d);
+    }
+    Some((value, bytes.len()))
+}
+
+/// The cell that the first word writes, where it does, and the bytes behind it.
+pub(crate) fn leading_cell(bytes: &[u8]) -> Option<(Cell, &[u8])>
+    ensures cell { option_map (λ r. (r.0, r.1.now)) result ≡ leading cell_of bytes.now }
+    ensures shorter { IfSome result (λ r. length r.1.now < length bytes.now) }
+{
+    let Some((first, rest)) = bytes.split_first() else {
+        return None;
+    };
+    if *first == b'.' {
+        leading_empty(rest)
+    } else if *first == b'-' {
+        leading_negative(rest)
+    } else {
+        leading_positive(bytes)
+    }
+}
+
+/// The empty cell, where the word that began with `.` ends before these bytes, and the bytes.
+fn leading_empty(rest: &[u8]) -> Option<(Cell, &[u8])>
+    ensures cell { option_map (λ r. (r.0, r.1.now)) result ≡ leading cell_of (46 ∷ rest.now) }
+    ensures shorter { IfSome result (λ r. length r.1.now ≤ length rest.now) }
+{
+    let Some((b, _)) = rest.split_first() else {
+        return Some((EMPTY, rest));
+    };
+    if is_blank(*b) {
+        Some((EMPTY, rest))
+    } else {
+        None
+    }
+}
+
+/// The cell below 0 that the word that began with `-` writes on, and the bytes behind it.
+fn leading_negative(rest: &[u8]) -> Option<(Cell, &[u8])>
+    ensures cell { option_map (λ r. (r.0, r.1.now)) result ≡ leading cell_of (45 ∷ rest.now) }
+    ensures shorter { IfSome result (λ r. length r.1.now ≤ length rest.now) }
+{
+    let Some((n, after)) = leading_number(rest, MOST_CELL) else {
+        return None;
+    };
+    Some((Cell(-(n as i32)), after))
+}
+
+/// The cell that the digits of the first word write, and the bytes behind it.
+fn leading_positive(bytes: &[u8]) -> Option<(Cell, &[u8])>
+    ensures cell { option_map (λ r. (r.0, r.1.now)) result ≡ leading positive_cell bytes.now }
+    ensures shorter { IfSome result (λ r. length r.1.now < length bytes.now) }
+{
+    let Some((n, after)) = leading_number(bytes, MOST_CELL) else {
+        return None;
+    };
+    Some((Cell(n as i32), after))
+}

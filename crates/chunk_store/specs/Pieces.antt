@@ -1,0 +1,19 @@
+-- The reads that a load makes: places and lengths, where they are told.
+use Rattle.std.specs.Prelude.{◌≡◌, ℕ, ◌+◌, ◌*◌, ◌<◌, ◌≤◌, List, [], ◌∷◌, ◌++◌, Option, Some, None}
+use Rattle.grid_cells.specs.LayoutParts.{LayoutParts}
+use Rattle.grid_cells.specs.Chunks.{chunk_cells}
+use Rattle.array_file.specs.Stored.{chunk_start}
+
+-- reads of 1 to 4,096 bytes, each of which lies within the places from a up to b and begins behind the one before
+abbrev pub Pieces : ℕ → ℕ → List (ℕ × ℕ) → Type 0
+Pieces a b [] = Unit {0}
+Pieces a b (r ∷ rs) = (a ≤ r.0) × (0 < r.1) × (r.1 ≤ 4096) × (r.0 + r.1 ≤ b) × Pieces (r.0 + 1) b rs
+
+-- such reads were added to the record, where it is told
+abbrev pub AsksPieces : Option (List (ℕ × ℕ)) → Option (List (ℕ × ℕ)) → ℕ → ℕ → Type 0
+AsksPieces None new a b = new ≡ None
+AsksPieces (Some old) new a b = (more : List (ℕ × ℕ)) × (new ≡ Some (old ++ more)) × Pieces a b more
+
+-- where chunk n ends
+abbrev pub chunk_end : LayoutParts → ℕ → ℕ
+chunk_end l n = chunk_start l n + 4 * chunk_cells l

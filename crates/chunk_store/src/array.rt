@@ -1,0 +1,109 @@
+//! All cells of an array file.
+ghost use Rattle.std.specs.Prelude.{◌≡◌, ◌+◌, ◌<◌, ◌≤◌, length, IfOk, OnOk, OnErr, IsErrOf};
+ghost use Rattle.source_io.specs.Told.{Rose};
+ghost use Rattle.grid_cells.specs.Numbers.{product};
+ghost use Rattle.grid_cells.specs.Chunks.{chunk_cells, chunk_count};
+ghost use Rattle.grid_cells.specs.Rules.{IsLayout};
+ghost use Rattle.grid_cells.specs.declared.layout.TheConstants.{MOST_CELLS};
+ghost use Rattle.array_file.specs.Header.{file_size};
+ghost use Rattle.array_file.specs.Stored.{chunk_start, HoldsCells, MakesArray};
+ghost use Rattle.chunk_store.specs.Loaded.{HoldsFirstChunks};
+ghost use Rattle.chunk_store.specs.Pieces.{AsksPieces, chunk_end};
+
+use crate::{Frame, load};
+use grid_cells::{Cell, Layout};
+use source_io::{ByteSource, Failed};
+use std::alloc::Global;
+
+/// Why no cells were read. Source: own.
+#[derive(Clone, Copy, Debug, PartialEq, Eq)]
+pub enum CellsFault {
+    /// The source counted a fault.
+    Read,
+    /// Memory ran out.
+    NoMemory,
+}
+
+/// Loads chunk `n` into the frame and puts its cells in their places, where those of the chunks before it
+/// are there.
+fn add_chunk<S: ByteSource>(
+    layout: &Layout,
+    n: u32,
+    src: &mut S,
+    frame: &mut Frame,
+    cells: &mut [Cell],
+) -> Result<(), Failed>
+    requires rules { IsLayout layout.now }
+    requires chunk { n < chunk_count layout.now }
+    requires whole { file_size layout.now ≤ S.len src.old }
+    requires frame { length frame.old.cells ≡ chunk_cells layout.now }
+    requires cells { HoldsFirstChunks (S.bytes src.old) layout.now n cells.old }
+    ensures cells { OnOk result (HoldsFirstChunks (S.bytes src.old) layout.now (n + 1) cells.new) }
+    ensures frame { length frame.new.cells ≡ chunk_cells layout.now }
+    ensures cause { OnErr result (Rose (S.faults src.old) (S.faults src.new)) }
+    ensures faults { S.faults src.old ≤ S.faults src.new }
+    ensures asked { AsksPieces (S.asked src.old) (S.asked src.new) (chunk_start layout.now n) (chunk_end layout.now n) }
+    ensures same_bytes { S.bytes src.new ≡ S.bytes src.old }
+    ensures same_len { S.len src.new ≡ S.len src.old }
+    ensures same_name { S.opened_as src.new ≡ S.opened_as src.old }
+{
+    load(layout, n, src, frame)?;
+    layout.place_chunk(n, frame.cells(), cells);
+    Ok(())
+}
+
+/// Loads each chunk once, in order, and puts its cells in their places.
+fn add_chunks<S: ByteSource>(
+    layout: &Layout,
+    src: &mut S,
+    frame: &mut Frame,
+    cells: &mut [Cell],
+) -> Result<(), Failed>
+    requires whole { file_size layout.now ≤ S.len src.old }
+    requires frame { length frame.old.cells ≡ chunk_cells layout.now }
+    requires cells { length cells.old ≡ product layout.now.extents }
+    ensures cells { OnOk result (HoldsCells (S.bytes src.old) layout.now cells.new) }
+    ensures cause { OnErr result (Rose (S.faults src.old) (S.faults src.new)) }
+    ensures faults { S.faults src.old ≤ S.faults src.new }
+    ensures asked { AsksPieces (S.asked src.old) (S.asked src.new) 96 (file_size layout.now) }
+    ensures same_bytes { S.bytes src.new ≡ S.bytes src.old }
+    ensures same_len { S.len src.new ≡ S.len src.old }
+    ensures same_name { S.opened_as src.new ≡ S.opened_as src.old }
+{
+    for n in 0..layout.chunks() {
+        add_chunk(layout, n, src, frame, cells)?;
+    }
+    Ok(())
+}
+
+/// Reads the cells of a file of this layout, in row-major order. Each chunk is loaded once, in order, into one
+/// frame. All memory is taken before the source is read. `Read` where the source counted a fault, and
+/// `NoMemory` where memory ran out. Source: own.
+pub fn read_cells<S: ByteSource>(
+    alloc: Global,
+    layout: &Layout,
+    src: &mut S,
+) -> Result<Vec<Cell>, CellsFault>
+    requires { file_size layout.now ≤ S.len src.old }
+    ensures cells { IfOk result (λ cells. HoldsCells (S.bytes src.old) layout.now cells.items) }
+    ensures array { IfOk result (λ cells. MakesArray (S.bytes src.old) layout.now cells.items) }
+    ensures count { IfOk result (λ cells. length cells.items ≡ product layout.now.extents) }
+    ensures few { IfOk result (λ cells. length cells.items ≤ MOST_CELLS) }
+    ensures cause { IsErrOf result CellsFault.Read → Rose (S.faults src.old) (S.faults src.new) }
+    ensures faults { S.faults src.old ≤ S.faults src.new }
+    ensures asked { AsksPieces (S.asked src.old) (S.asked src.new) 96 (file_size layout.now) }
+    ensures same_bytes { S.bytes src.new ≡ S.bytes src.old }
+    ensures same_len { S.len src.new ≡ S.len src.old }
+    ensures same_name { S.opened_as src.new ≡ S.opened_as src.old }
+{
+    let Ok(mut frame) = Frame::new(alloc, layout) else {
+        return Err(CellsFault::NoMemory);
+    };
+    let Ok(mut cells) = vec![in alloc; Cell(0); layout.cells() as usize] else {
+        return Err(CellsFault::NoMemory);
+    };
+    match add_chunks(layout, src, &mut frame, cells.as_mut_slice()) {
+        Ok(()) => Ok(cells),
+        Err(_) => Err(CellsFault::Read),
+    }
+}

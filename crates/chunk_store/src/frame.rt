@@ -1,0 +1,52 @@
+//! One chunk in memory.
+ghost use Rattle.std.specs.Prelude.{◌≡◌, None, length, IfOk};
+ghost use Rattle.grid_cells.specs.Chunks.{chunk_cells};
+
+use grid_cells::{Cell, Layout};
+use source_io::NoMemory;
+use std::alloc::Global;
+use std::marker::Model;
+
+/// The cells of one chunk, and which chunk they are, where it holds one. Contracts see it as these two.
+/// It has as many cells as a chunk of its layout, padding included, and keeps them. Source: own.
+#[derive(Drop)]
+pub struct Frame {
+    pub(crate) chunk: Option<u32>,
+    pub(crate) cells: Vec<Cell>,
+}
+
+impl Model for Frame {
+    ghost use Rattle.chunk_store.specs.Frames.{FrameParts};
+
+    ghost Value = { FrameParts };
+
+    ghost view = { λ f. record { chunk = f.chunk; cells = f.cells.items } };
+}
+
+impl Frame {
+    /// A frame for chunks of this layout that holds no chunk. `NoMemory` where memory ran out. Source: own.
+    pub fn new(alloc: Global, layout: &Layout) -> Result<Frame, NoMemory>
+        ensures no_chunk { IfOk result (λ frame. frame.chunk ≡ None) }
+        ensures cells { IfOk result (λ frame. length frame.cells ≡ chunk_cells layout.now) }
+    {
+        let Ok(cells) = vec![in alloc; Cell(0); layout.chunk_cells() as usize] else {
+            return Err(NoMemory);
+        };
+        Ok(Frame { chunk: None, cells })
+    }
+
+    /// The number of the chunk that it holds, or `None` where it holds none. Source: own.
+    pub fn chunk(&self) -> Option<u32>
+        ensures { result ≡ self.now.chunk }
+    {
+        self.chunk
+    }
+
+    /// Its cells, in the order of the chunk in its file, padding included. They say nothing where it holds
+    /// no chunk. Source: own.
+    pub fn cells(&self) -> &[Cell]
+        ensures { result.now ≡ self.now.cells }
+    {
+        self.cells.as_slice()
+    }
+}

@@ -1,0 +1,114 @@
+//! Loading a chunk of an array file.
+ghost use Rattle.std.specs.Prelude.{◌≡◌, ◌+◌, ◌*◌, ◌<◌, ◌≤◌, Some, None, length, OnOk, OnErr};
+ghost use Rattle.source_io.specs.Told.{Rose};
+ghost use Rattle.grid_cells.specs.Chunks.{chunk_cells, chunk_count};
+ghost use Rattle.array_file.specs.Header.{file_size};
+ghost use Rattle.array_file.specs.Stored.{cell_at, chunk_start};
+ghost use Rattle.chunk_store.specs.Loaded.{cells_from, HoldsFrom, HoldsChunk};
+ghost use Rattle.chunk_store.specs.Pieces.{AsksPieces, chunk_end};
+
+use crate::Frame;
+use array_file::chunk_at;
+use byteorder::{ByteOrder, LittleEndian};
+use grid_cells::{Cell, Layout};
+use source_io::{ByteSource, Failed, read_whole};
+
+/// How many cells a load reads at a time.
+const PIECE_CELLS: usize = 1024;
+
+/// How many bytes they have.
+const PIECE_BYTES: usize = 4096;
+
+/// The cell in the four bytes from place `at` on.
+fn cell(bytes: &[u8], at: usize) -> Cell
+    requires { at + 4 ≤ length bytes.now }
+    ensures { result ≡ cell_at bytes.now at }
+{
+    Cell(LittleEndian::read_i32(&bytes[at..]))
+}
+
+/// Puts the cells in these bytes in place of those that are there. Each is written once, straight from its
+/// bytes: the whole-slice reader of numbers fills a slice of numbers, which then would be copied into cells.
+fn put_cells(cells: &mut [Cell], bytes: &[u8])
+    requires { length bytes.now ≡ 4 * length cells.old }
+    ensures { cells.new ≡ cells_from bytes.now 0 (length cells.old) }
+{
+    for k in 0..cells.len() {
+        cells[k] = cell(bytes, 4 * k);
+    }
+}
+
+/// Reads so many cells as there are from place `at` on, at most a piece.
+fn read_piece<S: ByteSource>(
+    src: &mut S,
+    at: u64,
+    cells: &mut [Cell],
+    bytes: &mut [u8; PIECE_BYTES],
+) -> Result<(), Failed>
+    requires few { length cells.old ≤ PIECE_CELLS }
+    requires within { at + 4 * length cells.old ≤ S.len src.old }
+    ensures cells { OnOk result (HoldsFrom (S.bytes src.old) at cells.new) }
+    ensures cause { OnErr result (Rose (S.faults src.old) (S.faults src.new)) }
+    ensures faults { S.faults src.old ≤ S.faults src.new }
+    ensures asked { AsksPieces (S.asked src.old) (S.asked src.new) at (at + 4 * length cells.old) }
+    ensures same_bytes { S.bytes src.new ≡ S.bytes src.old }
+    ensures same_len { S.len src.new ≡ S.len src.old }
+    ensures same_name { S.opened_as src.new ≡ S.opened_as src.old }
+{
+    let piece = &mut bytes[..4 * cells.len()];
+    read_whole(src, at, piece)?;
+    put_cells(cells, piece);
+    Ok(())
+}
+
+/// Reads so many cells as there are from place `at` on, piece by piece.
+fn read_pieces<S: ByteSource>(src: &mut S, at: u64, cells: &mut [Cell]) -> Result<(), Failed>
+    requires { at + 4 * length cells.old ≤ S.len src.old }
+    ensures cells { OnOk result (HoldsFrom (S.bytes src.old) at cells.new) }
+    ensures cause { OnErr result (Rose (S.faults src.old) (S.faults src.new)) }
+    ensures faults { S.faults src.old ≤ S.faults src.new }
+    ensures asked { AsksPieces (S.asked src.old) (S.asked src.new) at (at + 4 * length cells.old) }
+    ensures same_bytes { S.bytes src.new ≡ S.bytes src.old }
+    ensures same_len { S.len src.new ≡ S.len src.old }
+    ensures same_name { S.opened_as src.new ≡ S.opened_as src.old }
+{
+    let _size = src.size();
+    let mut bytes = [0; PIECE_BYTES];
+    let mut done = 0;
+    while done < cells.len() {
+        let n = PIECE_CELLS.min(cells.len() - done);
+        let piece = &mut cells[done..done + n];
+        read_piece(src, at + 4 * done as u64, piece, &mut bytes)?;
+        done += n;
+    }
+    Ok(())
+}
+
+/// Loads chunk `n` into a frame of this layout. It reads the bytes of that chunk alone, piece by piece and
+/// each piece whole before the next, and takes no memory. `Failed` where the source counted a fault; the
+/// frame then holds no chunk. Source: own.
+pub fn load<S: ByteSource>(
+    layout: &Layout,
+    n: u32,
+    src: &mut S,
+    into: &mut Frame,
+) -> Result<(), Failed>
+    requires chunk { n < chunk_count layout.now }
+    requires whole { file_size layout.now ≤ S.len src.old }
+    requires frame { length into.old.cells ≡ chunk_cells layout.now }
+    ensures chunk { OnOk result (into.new.chunk ≡ Some n) }
+    ensures no_chunk { OnErr result (into.new.chunk ≡ None) }
+    ensures cells { OnOk result (HoldsChunk (S.bytes src.old) layout.now n into.new.cells) }
+    ensures frame { length into.new.cells ≡ length into.old.cells }
+    ensures cause { OnErr result (Rose (S.faults src.old) (S.faults src.new)) }
+    ensures faults { S.faults src.old ≤ S.faults src.new }
+    ensures asked { AsksPieces (S.asked src.old) (S.asked src.new) (chunk_start layout.now n) (chunk_end layout.now n) }
+    ensures same_bytes { S.bytes src.new ≡ S.bytes src.old }
+    ensures same_len { S.len src.new ≡ S.len src.old }
+    ensures same_name { S.opened_as src.new ≡ S.opened_as src.old }
+{
+    into.chunk = None;
+    read_pieces(src, chunk_at(layout, n), into.cells.as_mut_slice())?;
+    into.chunk = Some(n);
+    Ok(())
+}

@@ -1,0 +1,24 @@
+//! One write to what the system gives.
+ghost use Rattle.std.specs.Prelude.{◌<◌, ◌≤◌, length, take, IfSome, IfNone};
+ghost use Rattle.std.specs.Io.KnownBytes.{Keeps, Appends};
+
+use crate::tries::TRIES;
+use std::io::{ErrorKind, Write};
+
+/// One write, and how many bytes were taken; `None` where it was not done, and where no byte was taken.
+/// A write that a signal breaks off is tried again, `TRIES` times in all. Source: own.
+pub fn write_some<W: Write>(writer: &mut W, piece: &[u8]) -> Option<usize>
+    ensures count { IfSome result (λ n. (0 < n) × (n ≤ length piece.now)) }
+    ensures taken { IfSome result (λ n. Appends (W.contents writer.old) (W.contents writer.new) (take n piece.now)) }
+    ensures kept { IfNone result (Keeps (W.contents writer.old) (W.contents writer.new)) }
+{
+    for _ in 0..TRIES {
+        match writer.write(piece) {
+            Ok(0) => return None,
+            Ok(n) => return Some(n),
+            Err(e) if e.kind() == ErrorKind::Interrupted => {}
+            Err(_) => return None,
+        }
+    }
+    None
+}
