@@ -4,9 +4,9 @@ use Rattle.std.specs.List.{range_with_len}
 use Rattle.std.specs.Int.{cast_signed}
 use mir.Syntax.{w32}
 use Rattle.std.proofs.Math.Seq.{take-add, drop-append_seam}
-use Rattle.std.proofs.lemmas.List.{drop-append-le, take-append-drop, take-append-le, take_at, take_all, drop-drop, length-take-le}
+use Rattle.std.proofs.lemmas.List.{drop-append-le, take-append-drop, take_at, take_all, drop-drop, length-take-le}
 use Rattle.std.proofs.lemmas.List.FromFn.{fill_by_all, get_or-map-range_with_len, length-map-range_with_len, map-range_with_len_more}
-use borrow.Rule.Slice.PartMut.{put_mid, mid_of, post_of}
+use borrow.Rule.Slice.PartMut.{put_mid, post_of}
 use Rattle.byteorder.specs.Endian.{little_number}
 use Rattle.byteorder.specs.Numbers.{little_from-append}
 use Rattle.source_io.specs.Told.{Holds}

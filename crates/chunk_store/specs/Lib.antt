@@ -1,3 +1,4 @@
 pub mod Frames
 pub mod Loaded
 pub mod Pieces
+pub mod Summaries

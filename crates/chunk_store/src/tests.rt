@@ -10,6 +10,7 @@ use std::alloc::{AllocError, Global};
 use std::test::Fail;
 
 mod array;
+mod summary;
 
 /// A line of 3,000 cells in two chunks, each of a whole piece and a shorter one.
 fn long_line() -> Result<Layout, LayoutRefusal> {

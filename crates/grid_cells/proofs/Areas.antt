@@ -14,13 +14,13 @@ use Rattle.grid_cells.proofs.Parts.{places, part_places, is_in, places-parts}
 use Rattle.grid_cells.proofs.Rectangles.{lengths, latest, earliest}
 
 -- the sides with these ends
-abbrev side : ℕ → ℕ → Side
+abbrev pub side : ℕ → ℕ → Side
 side f t = record { from = pos f; to = pos t }
 
-abbrev sides : List ℕ → List ℕ → List Side
+abbrev pub sides : List ℕ → List ℕ → List Side
 sides fs ts = map (λ (f, t). side f t) (zip fs ts)
 
-lies_in-sides : (fs ts cs : List ℕ) → length ts ≡ length fs → lies_in (sides fs ts) cs ≡ is_between_ends fs ts cs
+pub lies_in-sides : (fs ts cs : List ℕ) → length ts ≡ length fs → lies_in (sides fs ts) cs ≡ is_between_ends fs ts cs
 lies_in-sides [] [] [] long = refl
 lies_in-sides [] [] (c ∷ cs) long = refl
 lies_in-sides [] (t ∷ ts) cs long = absurd (omega arith)

@@ -2,7 +2,10 @@ pub mod Among
 pub mod Areas
 pub mod Coordinates
 pub mod Copies
+pub mod FirstChunks
 pub mod Kept
+pub mod LaneRecords
+pub mod LaneSums
 pub mod Layouts
 pub mod Nesting
 pub mod Orders
@@ -13,6 +16,7 @@ pub mod Ranges
 pub mod Records
 pub mod Rectangles
 pub mod Regions
+pub mod Summaries
 pub mod Sums
 pub mod Takings
 pub mod Threes

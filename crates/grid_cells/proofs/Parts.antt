@@ -55,7 +55,7 @@ filter_map-map h f (x ∷ xs) = ap (cons_option (h (f x))) (filter_map-map h f x
 
 -- ---- two functions that agree on a list
 
-filter-agree : {X : Type 0} (p q : X → Bool) (xs : List X) → ((x : X) → IsIn x xs → p x ≡ q x) → filter p xs ≡ filter q xs
+pub filter-agree : {X : Type 0} (p q : X → Bool) (xs : List X) → ((x : X) → IsIn x xs → p x ≡ q x) → filter p xs ≡ filter q xs
 filter-agree p q [] h = refl
 filter-agree p q (x ∷ xs) h = (λ i. cond (h x (inl refl) i) (x ∷ filter-agree p q xs (λ y m. h y (inr m)) i) (filter-agree p q xs (λ y m. h y (inr m)) i))
 

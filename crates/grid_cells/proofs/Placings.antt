@@ -161,7 +161,7 @@ chunk_box-within l n box is below e = subst (λ b. All IsWithinBoth b) (sym e) (
 -- ---- a place of a chunk
 
 -- where a place stands in its chunk is how far it is from the chunk's first place
-less-firsts : (ns ms at : List ℕ) → IsTiling ns ms → is_place ns at ≡ true → less at (firsts (quotients at ms) ms) ≡ remainders at ms
+pub less-firsts : (ns ms at : List ℕ) → IsTiling ns ms → is_place ns at ≡ true → less at (firsts (quotients at ms) ms) ≡ remainders at ms
 less-firsts [] [] [] t h = refl
 less-firsts [] [] (c ∷ cs) t h = cc
 less-firsts [] (m ∷ ms) at t h = elim t [ ]

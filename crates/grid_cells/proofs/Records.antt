@@ -15,7 +15,7 @@ use Rattle.grid_cells.proofs.Sums.{within_abs, abs_of_32_bits}
 
 -- ---- folds by an operation whose brackets do not matter
 
-fold-op : {X : Type 0} (op : X → X → X) → ((x y z : X) → op (op x y) z ≡ op x (op y z)) → (x y : X) (ys : List X) → fold op (op x y) ys ≡ op x (fold op y ys)
+pub fold-op : {X : Type 0} (op : X → X → X) → ((x y z : X) → op (op x y) z ≡ op x (op y z)) → (x y : X) (ys : List X) → fold op (op x y) ys ≡ op x (fold op y ys)
 fold-op op same x y [] = refl
 fold-op op same x y (z ∷ zs) = ap (λ w. fold op w zs) (same x y z) ∙ fold-op op same x (op y z) zs
 
@@ -23,10 +23,10 @@ fold-append_cons : {X : Type 0} (op : X → X → X) → ((x y z : X) → op (op
     → fold op x (xs ++ y ∷ ys) ≡ op (fold op x xs) (fold op y ys)
 fold-append_cons op same x xs y ys = fold-append op x xs (y ∷ ys) ∙ fold-op op same (fold op x xs) y ys
 
-int_min-int_min : (x y z : ℤ) → int_min (int_min x y) z ≡ int_min x (int_min y z)
+pub int_min-int_min : (x y z : ℤ) → int_min (int_min x y) z ≡ int_min x (int_min y z)
 int_min-int_min x y z = omega (arith, ints, clamps)
 
-int_max-int_max : (x y z : ℤ) → int_max (int_max x y) z ≡ int_max x (int_max y z)
+pub int_max-int_max : (x y z : ℤ) → int_max (int_max x y) z ≡ int_max x (int_max y z)
 int_max-int_max x y z = omega (arith, ints, clamps)
 
 add-add : (x y z : ℤ) → (x +ℤ y) +ℤ z ≡ x +ℤ (y +ℤ z)

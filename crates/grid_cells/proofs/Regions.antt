@@ -88,7 +88,7 @@ abbrev pub part : {X : Type 0} → ℕ → ℕ → List X → List X
 part p c cells = take p (drop (c * p) cells)
 
 -- the number at a place
-abbrev number : List Cell → ℕ → Option ℤ
+abbrev pub number : List Cell → ℕ → Option ℤ
 number cells k = option_and_then (λ (x : Option ℤ). x) (slice_get (map cell_value cells) k)
 
 -- a part ends within all parts
@@ -109,7 +109,7 @@ number-part p c n j cells below all within =
     ap (option_and_then (λ (x : Option ℤ). x)) (slice_get-get_or xs (c * p + j) None inside ∙ ap Some (sym here) ∙ sym (slice_get-get_or (map cell_value (part p c cells)) j None (omega arith)))
 
 -- the numbers of a region, by the places of its extents
-present_cells-places : (rank : ℕ) (ns : List ℕ) (ss : List Side) (cells : List Cell) → length cells ≡ product ns → present_cells (array_of rank ns cells) ss ≡ filter_map (number cells) (places ns ss)
+pub present_cells-places : (rank : ℕ) (ns : List ℕ) (ss : List Side) (cells : List Cell) → length cells ≡ product ns → present_cells (array_of rank ns cells) ss ≡ filter_map (number cells) (places ns ss)
 present_cells-places rank ns ss cells whole =
     ap (λ m. filter_map (number cells) (filter (λ k. lies_in ss (coordinates_of ns k)) (range_with_len 0 m))) (length-map cells cell_value ∙ whole)
 

@@ -2,6 +2,7 @@ pub mod Numbers
 pub mod Records
 pub mod Array
 pub mod Cells
+pub mod Lanes
 pub mod LayoutParts
 pub mod Rects
 pub mod Tiles
@@ -10,3 +11,4 @@ pub mod Rules
 pub mod Stated
 pub mod Boxes
 pub mod Placing
+pub mod Summaries

@@ -1,12 +1,15 @@
 //! What records and layouts are, in the words of the subject.
-ghost use Rattle.std.specs.Prelude.{◌≡◌, ◌<◌, ◌+◌, ℕ, List, ℤ, ◌++◌, length, slice_index_or, sum_by, IsPermutation, true};
-ghost use Rattle.grid_cells.specs.Chunks.{chunk_count, chunk_rect, chunk_of, place_in_chunk, chunk_around, block_count, block_rect, block_above};
+ghost use Rattle.std.specs.Prelude.{◌≡◌, ◌<◌, ◌≤◌, ◌+◌, ℕ, List, [], ℤ, ◌++◌, length, slice_index_or, fold, filter_map, sum_by, IsPermutation, true};
+ghost use Rattle.std.specs.List.{range_with_len};
+ghost use Rattle.grid_cells.specs.Cells.{cell_value};
+ghost use Rattle.grid_cells.specs.Chunks.{chunk_cells, chunk_count, chunk_rect, chunk_of, place_in_chunk, chunk_around, block_count, block_rect, block_above};
 ghost use Rattle.grid_cells.specs.LayoutParts.{LayoutParts};
 ghost use Rattle.grid_cells.specs.Numbers.{product};
-ghost use Rattle.grid_cells.specs.Placing.{chunk_of_cells};
+ghost use Rattle.grid_cells.specs.Placing.{empty_cell, chunk_of_cells, cells_of_chunks};
 ghost use Rattle.grid_cells.specs.Records.{record_of, merged};
 ghost use Rattle.grid_cells.specs.Rects.{holds_place, LiesInside};
 ghost use Rattle.grid_cells.specs.Rules.{IsLayout};
+ghost use Rattle.grid_cells.specs.Summaries.{places_of_chunk, places_of_first_chunks, chunk_numbers, numbers_of_chunk, numbers_of_first_chunks};
 ghost use Rattle.grid_cells.specs.declared.cell.Cell.{Cell};
 
 /// The record of the numbers of two lists is the merged one of their records. Source: own.
@@ -51,4 +54,24 @@ pub fn blocks_lie_in_chunks()
 pub fn taken_chunks_have_each_cell()
     ensures { (l : LayoutParts) (cells : List Cell) (k : ℕ) (d : Cell) → IsLayout l → length cells ≡ product l.extents → k < product l.extents →
         slice_index_or (chunk_of_cells l cells (chunk_of l k)) (place_in_chunk l k) d ≡ slice_index_or cells k d }
+{}
+
+/// The record of the whole array is that of its chunks, merged in their order, where `f` gives the cell of a
+/// chunk at a place of it: padding is not counted, and each cell of the array is counted once. The clauses
+/// after the first one are for a loop over the chunks. Source: own.
+pub fn records_of_chunks_make_the_array()
+    ensures whole { (l : LayoutParts) (f : ℕ → ℕ → Cell) → IsLayout l →
+        record_of (filter_map cell_value (cells_of_chunks l f)) ≡ fold (λ all n. merged all (record_of (numbers_of_chunk l f n))) (record_of []) (range_with_len 0 (chunk_count l)) }
+    ensures none { (l : LayoutParts) (f : ℕ → ℕ → Cell) → numbers_of_first_chunks l f 0 ≡ [] }
+    ensures next { (l : LayoutParts) (f : ℕ → ℕ → Cell) (m : ℕ) →
+        record_of (numbers_of_first_chunks l f (m + 1)) ≡ merged (record_of (numbers_of_first_chunks l f m)) (record_of (numbers_of_chunk l f m)) }
+    ensures all { (l : LayoutParts) (f : ℕ → ℕ → Cell) → IsLayout l → numbers_of_first_chunks l f (chunk_count l) ≡ filter_map cell_value (cells_of_chunks l f) }
+    ensures cells { (l : LayoutParts) (f : ℕ → ℕ → Cell) (n : ℕ) (chunk : List Cell) → IsLayout l →
+        ((p : ℕ) → p < chunk_cells l → slice_index_or chunk p empty_cell ≡ f n p) → chunk_numbers l n chunk ≡ numbers_of_chunk l f n }
+{}
+
+/// One chunk after the other has places of its own, and the array has all of them. Source: own.
+pub fn chunks_share_no_place()
+    ensures next { (l : LayoutParts) (m : ℕ) → length (places_of_first_chunks l (m + 1)) ≡ length (places_of_first_chunks l m) + length (places_of_chunk l m) }
+    ensures few { (l : LayoutParts) (m : ℕ) → length (places_of_first_chunks l m) ≤ product l.extents }
 {}

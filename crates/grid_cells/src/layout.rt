@@ -94,6 +94,17 @@ impl Layout {
         self.chunk
     }
 
+    /// The shape of a chunk, as of an array of its own.
+    pub(crate) fn chunk_shape(&self) -> Shape
+        ensures extents { result.extents ≡ self.now.chunk }
+        ensures few { product result.extents ≤ MOST_CHUNK_CELLS }
+        ensures rules { IsLayout self.now }
+    {
+        Shape {
+            extents: self.chunk,
+        }
+    }
+
     /// How many levels of blocks there are. Source: own.
     pub fn levels(&self) -> u8
         ensures { result ≡ self.now.levels }

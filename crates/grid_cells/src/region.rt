@@ -7,7 +7,8 @@ ghost use Rattle.grid_cells.specs.Cells.{array_of, cell_value};
 ghost use Rattle.grid_cells.specs.Numbers.{product, IsWithin};
 ghost use Rattle.grid_cells.specs.Records.{record_of};
 
-use crate::record::{NOTHING, Record, fold, merge};
+use crate::lanes::fold_lanes;
+use crate::record::{NOTHING, Record, merge};
 use crate::{Cell, Shape, Side};
 
 /// Whether a region, given by its side in each dimension, has a place and lies within an array of this shape.
@@ -134,7 +135,7 @@ fn run_record(cells: &[Cell], size: usize, side: &Side) -> Record
     ensures few { result.count ≤ length cells.now }
     ensures each { IsWithin result.sum (2 ^ 31 * result.count) }
 {
-    fold(&cells[side.from as usize * size..side.to as usize * size])
+    fold_lanes(&cells[side.from as usize * size..side.to as usize * size])
 }
 
 #[cfg(test)]

@@ -1,7 +1,6 @@
-pub mod Words
-pub mod Commands
 pub mod Status
 pub mod Ends
 pub mod Verdict
 pub mod Problem
+pub mod Info
 pub mod Texts

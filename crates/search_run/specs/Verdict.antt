@@ -1,8 +1,10 @@
 -- What the words and the files determine: the verdict, the whole output, the file that is made, and the names that are opened.
-use Rattle.std.specs.Prelude.{ℕ, List, [], ◌∷◌, Option, Some, None, Ok, Err, map, option_map, String, string_bytes}
+use Rattle.std.specs.Prelude.{ℕ, List, [], ◌∷◌, Option, Some, None, Ok, Err, option_map, String}
 use Rattle.std.specs.Global.{Global}
 use Rattle.std.specs.Option.{option_map_or}
 use Rattle.source_io.specs.Files.{Files, bytes_at}
+use Rattle.clap.specs.Words.{Text}
+use Rattle.command_words.specs.Words.{Command, solo, verify, pack, info, command_in, texts_of}
 use Rattle.array_file.specs.Stored.{refusal_of, stored_array}
 use Rattle.array_file.specs.Written.{array_bytes}
 use Rattle.array_text.specs.Walk.{Walked as TextWalked, stated_array}
@@ -12,7 +14,7 @@ use Rattle.grid_cells.specs.declared.cell.Cell.{Cell}
 use Rattle.query_model.specs.QueryParts.{QueryParts}
 use Rattle.query_model.specs.Text.{text_of}
 use Rattle.query_text.specs.Walk.{Walked, walk}
-use Rattle.search_run.specs.Words.{Command, solo, verify, pack, command_in}
+use Rattle.search_run.specs.Info.{file_info}
 use Rattle.search_run.specs.declared.ending.Ending.{Ending}
 use Rattle.search_run.specs.declared.ending.Ending.TheVariants.{Done, Usage, ArrayRefused, TextRefused, QueryRefused}
 
@@ -70,64 +72,102 @@ told_verdict_of_text held text = option_map (λ files. text_verdict (stated_arra
 abbrev pub told_packed : Option Files → List ℕ → List ℕ → Option (Option (List ℕ × List ℕ))
 told_packed held text array = option_map (λ files. packed_as array (bytes_at files text)) held
 
+-- ---- the layout and the cells of an array file
+
+-- the array's refusal, or none
+abbrev pub array_verdict : List ℕ → Ending
+array_verdict array = option_map_or ArrayRefused (refusal_of array) Done
+
+-- what is told of the array, and nothing where it is refused
+abbrev pub info_on : List ℕ → List ℕ
+info_on array = option_map_or (λ r. []) (refusal_of array) (file_info array)
+
+-- the same of a name, where the files are told
+abbrev pub told_verdict_of_array : Option Files → List ℕ → Option Ending
+told_verdict_of_array held array = option_map (λ files. array_verdict (bytes_at files array)) held
+
+abbrev pub told_info : Option Files → List ℕ → Option (List ℕ)
+told_info held array = option_map (λ files. info_on (bytes_at files array)) held
+
 -- ---- a command
 
--- how it ends on these files where nothing fails
-abbrev pub command_verdict : Files → Command → Ending
-command_verdict files (solo array query) = verdict_on (bytes_at files array) (bytes_at files query)
-command_verdict files (verify array query) = verdict_on (bytes_at files array) (bytes_at files query)
-command_verdict files (pack text array) = text_verdict (stated_array (bytes_at files text))
+-- what a command comes to where nothing fails
+pub record Meaning : Type 0 where
+  -- how it ends on these files
+  pub verdict : Files → Ending
+  -- what it prints
+  pub output : Files → List ℕ
+  -- the name and the bytes of the file that it makes, where it makes one
+  pub file : Files → Option (List ℕ × List ℕ)
+  -- which names it opens or creates, in order
+  pub openings : List (List ℕ)
 
--- what it prints where nothing fails
-abbrev pub command_output : Files → Command → List ℕ
-command_output files (solo array query) = text_on (bytes_at files array) (bytes_at files query)
-command_output files (verify array query) = text_on (bytes_at files array) (bytes_at files query)
-command_output files (pack text array) = []
+-- to print the solutions of a query on an array
+abbrev pub listing : List ℕ → List ℕ → Meaning
+listing array query =
+    record {
+      verdict = λ files. verdict_on (bytes_at files array) (bytes_at files query);
+      output = λ files. text_on (bytes_at files array) (bytes_at files query);
+      file = λ files. None;
+      openings = array ∷ query ∷ [];
+    }
 
--- the name and the bytes of the file that it makes where nothing fails, where it makes one
-abbrev pub command_file : Files → Command → Option (List ℕ × List ℕ)
-command_file files (solo array query) = None
-command_file files (verify array query) = None
-command_file files (pack text array) = packed_as array (bytes_at files text)
+-- to make the array file of an array text
+abbrev pub packing : List ℕ → List ℕ → Meaning
+packing text array =
+    record {
+      verdict = λ files. text_verdict (stated_array (bytes_at files text));
+      output = λ files. [];
+      file = λ files. packed_as array (bytes_at files text);
+      openings = text ∷ array ∷ [];
+    }
 
--- which names it opens or creates, in order
-abbrev pub command_openings : Command → List (List ℕ)
-command_openings (solo array query) = array ∷ query ∷ []
-command_openings (verify array query) = array ∷ query ∷ []
-command_openings (pack text array) = text ∷ array ∷ []
+-- to tell what an array file holds
+abbrev pub telling : List ℕ → Meaning
+telling array =
+    record {
+      verdict = λ files. array_verdict (bytes_at files array);
+      output = λ files. info_on (bytes_at files array);
+      file = λ files. None;
+      openings = array ∷ [];
+    }
+
+-- what each command means
+abbrev pub meaning : Command → Meaning
+meaning (solo array query) = listing array query
+meaning (verify array query) = listing array query
+meaning (pack text array) = packing text array
+meaning (info array) = telling array
 
 -- the verdict, the output and the file of a command, where the files are told
 abbrev pub told_command_verdict : Option Files → Command → Option Ending
-told_command_verdict held command = option_map (λ files. command_verdict files command) held
+told_command_verdict held command = option_map (meaning command).verdict held
 
 abbrev pub told_command_output : Option Files → Command → Option (List ℕ)
-told_command_output held command = option_map (λ files. command_output files command) held
+told_command_output held command = option_map (meaning command).output held
 
 abbrev pub told_command_file : Option Files → Command → Option (Option (List ℕ × List ℕ))
-told_command_file held command = option_map (λ files. command_file files command) held
+told_command_file held command = option_map (meaning command).file held
 
 -- ---- the words
 
 -- how the words end on these files where nothing fails
-abbrev pub verdict : Files → List (List ℕ) → Ending
-verdict files words = option_map_or (command_verdict files) (command_in words) Usage
+abbrev pub verdict : Files → List Text → Ending
+verdict files words = option_map_or (λ c. (meaning c).verdict files) (command_in words) Usage
 
 -- what is printed where nothing fails
-abbrev pub whole_output : Files → List (List ℕ) → List ℕ
-whole_output files words = option_map_or (command_output files) (command_in words) []
+abbrev pub whole_output : Files → List Text → List ℕ
+whole_output files words = option_map_or (λ c. (meaning c).output files) (command_in words) []
 
 -- the name and the bytes of the file that is made where nothing fails, where one is made
-abbrev pub made_file : Files → List (List ℕ) → Option (List ℕ × List ℕ)
-made_file files words = option_map_or (command_file files) (command_in words) None
+abbrev pub made_file : Files → List Text → Option (List ℕ × List ℕ)
+made_file files words = option_map_or (λ c. (meaning c).file files) (command_in words) None
 
--- which names are opened, in order
-abbrev pub openings : List (List ℕ) → List (List ℕ)
-openings words = option_map_or command_openings (command_in words) []
+-- which names are opened or created, in order
+abbrev pub openings : List Text → List (List ℕ)
+openings words = option_map_or (λ c. (meaning c).openings) (command_in words) []
 
 -- ---- the words as the program has them, where the files are told
-
-abbrev pub texts_of : List (String Global) → List (List ℕ)
-texts_of words = map string_bytes words
 
 abbrev pub told_verdict : Option Files → List (String Global) → Option Ending
 told_verdict held words = option_map (λ files. verdict files (texts_of words)) held

@@ -1,12 +1,14 @@
 //! The commands: what the words of a command line ask for, done on a shelf of files.
 //! The top call is `run_tool`; its contract says what is printed, with which status, and from which cause.
-//! Definitions: `specs/Words` (which words name which command), `specs/Verdict` (what a command is, by the words and
-//! the files alone), `specs/Ends` (how a run ends), `specs/Status` (the status and the line that go with that).
+//! Definitions: `specs/Verdict` (what each command means, by the words and the files alone), `specs/Info` (what is
+//! told of an array file), `specs/Ends` (how a run ends), `specs/Status` (the status and the line that go with that).
+//! Which words name which command, `command_words` says.
 //! Until they have a crate of their own, solutions are printed (`print`) here.
 #![tactic(auto)]
 
-pub mod command;
 pub mod ending;
+pub mod info;
+pub mod info_text;
 pub mod line;
 pub mod load;
 pub mod pack;

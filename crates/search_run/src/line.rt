@@ -1,5 +1,6 @@
 //! A line that is put together.
 ghost use Rattle.std.specs.Prelude.{◌≡◌, ◌+◌, ◌≤◌, ◌^◌, ◌++◌, [], length, decimal};
+ghost use Rattle.std.specs.Fmt.{signed_decimal};
 
 use itoa::Buffer;
 use std::marker::Model;
@@ -47,6 +48,16 @@ impl Line {
     pub fn push_number(&mut self, n: u64)
         requires { length self.old ≤ 360 }
         ensures number { self.new ≡ self.old ++ decimal n }
+        ensures short { length self.new ≤ length self.old + 40 }
+    {
+        let mut digits = Buffer::new();
+        self.push(digits.format(n).as_bytes());
+    }
+
+    /// Puts a number at its end, in decimal, behind a minus sign where it is negative. Source: own.
+    pub fn push_signed(&mut self, n: i64)
+        requires { length self.old ≤ 360 }
+        ensures number { self.new ≡ self.old ++ signed_decimal n }
         ensures short { length self.new ≤ length self.old + 40 }
     {
         let mut digits = Buffer::new();

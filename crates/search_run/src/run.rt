@@ -1,15 +1,14 @@
 //! The top call.
-ghost use Rattle.std.specs.Prelude.{◌≡◌, ◌≢◌, ◌<◌, ◌≤◌, ◌^◌, ◌⊎◌, ◌↔◌, None};
+ghost use Rattle.std.specs.Prelude.{◌≡◌, ◌≢◌, ◌<◌, ◌≤◌, ◌^◌, ◌⊎◌, None, false};
 ghost use Rattle.source_io.specs.Told.{Rose};
 ghost use Rattle.source_io.specs.Written.{appended, AppendsFront};
-ghost use Rattle.search_run.specs.Words.{command_in};
-ghost use Rattle.search_run.specs.Commands.{named};
+ghost use Rattle.command_words.specs.Words.{command_in, names_command, texts_of};
+ghost use Rattle.command_words.specs.Commands.{named};
 ghost use Rattle.search_run.specs.Verdict.{
   told_command_verdict,
   told_command_output,
   told_command_file,
-  command_openings,
-  texts_of,
+  meaning,
   told_verdict,
   told_output,
   told_file,
@@ -28,10 +27,11 @@ ghost use Rattle.search_run.specs.Ends.{
 };
 
 use crate::Ending;
-use crate::command::{Command, read_words};
+use crate::info::info;
 use crate::pack::pack;
 use crate::plain::list_solutions;
 use crate::status::report;
+use command_words::{Command, WordsFault, read_words};
 use source_io::{Shelf, Sink};
 use std::alloc::Global;
 
@@ -59,9 +59,9 @@ fn run_command<F: Shelf, O: Sink>(
         Rose (O.faults out.old) (O.faults out.new)
         ⊎ Rose (F.sink_faults shelf.old) (F.sink_faults shelf.new) }
     ensures words { result ≢ Ending.Usage }
-    ensures opened { AppendsFront (F.opened shelf.old) (command_openings (named command.entry)) (F.opened shelf.new) }
+    ensures opened { AppendsFront (F.opened shelf.old) ((meaning (named command.entry)).openings) (F.opened shelf.new) }
     ensures all_opened { result ≡ Ending.Done →
-        F.opened shelf.new ≡ appended (F.opened shelf.old) (command_openings (named command.entry)) }
+        F.opened shelf.new ≡ appended (F.opened shelf.old) ((meaning (named command.entry)).openings) }
     ensures lent { F.lent shelf.new ≡ F.lent shelf.old }
     ensures making { F.making shelf.new ≡ F.making shelf.old }
 {
@@ -69,6 +69,7 @@ fn run_command<F: Shelf, O: Sink>(
         Command::Solo { array, query } => list_solutions(alloc, array, query, shelf, out),
         Command::Verify { array, query } => list_solutions(alloc, array, query, shelf, out),
         Command::Pack { text, array } => pack(alloc, text, array, shelf),
+        Command::Info { array } => info(alloc, array, shelf, out),
     }
 }
 
@@ -90,16 +91,19 @@ fn run<F: Shelf, O: Sink>(alloc: Global, words: &[String], shelf: &mut F, out: &
     ensures write_fault { result ≡ Ending.WriteFault →
         Rose (O.faults out.old) (O.faults out.new)
         ⊎ Rose (F.sink_faults shelf.old) (F.sink_faults shelf.new) }
-    ensures usage { (result ≡ Ending.Usage) ↔ (command_in (texts_of words.now) ≡ None) }
+    ensures usage { result ≡ Ending.Usage → command_in (texts_of words.now) ≡ None }
+    ensures unread { command_in (texts_of words.now) ≡ None → (result ≡ Ending.Usage) ⊎ (result ≡ Ending.NoMemory) }
+    ensures unnamed { names_command (texts_of words.now) ≡ false → result ≡ Ending.Usage }
     ensures opened { AppendsFront (F.opened shelf.old) (openings (texts_of words.now)) (F.opened shelf.new) }
     ensures all_opened { result ≡ Ending.Done →
         F.opened shelf.new ≡ appended (F.opened shelf.old) (openings (texts_of words.now)) }
     ensures lent { F.lent shelf.new ≡ F.lent shelf.old }
     ensures making { F.making shelf.new ≡ F.making shelf.old }
 {
-    match read_words(words) {
-        Some(command) => run_command(alloc, command, shelf, out),
-        None => Ending::Usage,
+    match read_words(alloc, words) {
+        Ok(command) => run_command(alloc, command, shelf, out),
+        Err(WordsFault::Usage) => Ending::Usage,
+        Err(WordsFault::NoMemory) => Ending::NoMemory,
     }
 }
 
@@ -108,8 +112,8 @@ fn run<F: Shelf, O: Sink>(alloc: Global, words: &[String], shelf: &mut F, out: &
 ///
 /// - 0: the output is whole, and so is the file.
 /// - 2: the words name no command; 3: the array file or the array text is refused; 4: the query file is
-///   refused. Each of these comes exactly where the words or the bytes show it, and nothing was then
-///   written to `out`, and no file made.
+///   refused. Each of these comes only where the words or the bytes show it, and there always, unless a
+///   fault or want of memory came first. Nothing was then written to `out`, and no file made.
 /// - 5: a file was not opened, not created or not read, which a count of the shelf shows; 6: `out` or the
 ///   file was not written, which its count shows; 7: memory ran out. A front of the output was then written,
 ///   and at 6 a front of the file.
@@ -128,7 +132,9 @@ pub fn run_tool<F: Shelf, O: Sink, E: Sink>(
 
     // The status is that of the verdict, unless a fault or want of memory came first.
     ensures status { IsStatus (told_verdict (F.holds shelf.old) words.now) result }
-    ensures usage { (result ≡ 2) ↔ (command_in (texts_of words.now) ≡ None) }
+    ensures usage { result ≡ 2 → command_in (texts_of words.now) ≡ None }
+    ensures unread { command_in (texts_of words.now) ≡ None → (result ≡ 2) ⊎ (result ≡ 7) }
+    ensures unnamed { names_command (texts_of words.now) ≡ false → result ≡ 2 }
     ensures known { result ≤ 7 }
 
     // The output is whole at 0, nothing at 2, 3 and 4, and a front of the whole at 5, 6 and 7.

@@ -34,21 +34,21 @@ fn reads_as(
 }
 
 /// The files of these layouts hold 99 where a chunk sticks out of the array.
-fn plane() -> Result<Layout, LayoutRefusal> {
+pub(super) fn plane() -> Result<Layout, LayoutRefusal> {
     let chunk = [2, 3, 1];
     Layout::new(2, [3, 4, 1], chunk, 1, [chunk, [0; 3], [0; 3], [0; 3]])
 }
 
-const PLANE: [i32; 24] = [
+pub(super) const PLANE: [i32; 24] = [
     1, 2, 3, 5, 6, 7, 4, 99, 99, 8, 99, 99, 9, 10, 11, 99, 99, 99, 12, 99, 99, 99, 99, 99,
 ];
 
-fn space() -> Result<Layout, LayoutRefusal> {
+pub(super) fn space() -> Result<Layout, LayoutRefusal> {
     let chunk = [1, 2, 2];
     Layout::new(3, [2, 3, 3], chunk, 1, [chunk, [0; 3], [0; 3], [0; 3]])
 }
 
-const SPACE: [i32; 32] = [
+pub(super) const SPACE: [i32; 32] = [
     1, 2, 4, 5, 3, 99, 6, 99, 7, 8, 99, 99, 9, 99, 99, 99, 10, 11, 13, 14, 12, 99, 15, 99, 16, 17,
     99, 99, 18, 99, 99, 99,
 ];

@@ -9,6 +9,7 @@ use std::test::Fail;
 mod chunks;
 mod faults;
 mod forms;
+mod info;
 mod packing;
 mod windows;
 
@@ -140,9 +141,14 @@ fn solo(alloc: Global, array: &[u8], query: &str) -> Result<Ran, Fail> {
     run_calm(alloc, "solo a q", array, query)
 }
 
-/// The eight cells with this many bytes, of which further ones are 0, and with these bytes in these places.
-fn changed_array(alloc: Global, size: usize, edits: &[(usize, u8)]) -> Result<Vec<u8>, AllocError> {
-    let mut bytes = Vec::from_slice(alloc, EIGHT_CELLS)?;
+/// A file cut to this many bytes, of which further ones are 0, and with these bytes in these places.
+fn changed(
+    alloc: Global,
+    file: &[u8],
+    size: usize,
+    edits: &[(usize, u8)],
+) -> Result<Vec<u8>, AllocError> {
+    let mut bytes = Vec::from_slice(alloc, file)?;
     bytes.resize(size, 0)?;
     for (at, byte) in edits {
         if let Some(place) = bytes.as_mut_slice().get_mut(*at) {
@@ -150,6 +156,11 @@ fn changed_array(alloc: Global, size: usize, edits: &[(usize, u8)]) -> Result<Ve
         }
     }
     Ok(bytes)
+}
+
+/// The eight cells, changed so.
+fn changed_array(alloc: Global, size: usize, edits: &[(usize, u8)]) -> Result<Vec<u8>, AllocError> {
+    changed(alloc, EIGHT_CELLS, size, edits)
 }
 
 /// A query with one text in place of another, which stands in it.
@@ -168,28 +179,41 @@ fn prints_every_window_whose_sum_is_at_least_nine(rt: HostRuntime) -> Result<(),
     Ok(())
 }
 
+/// Lines whose words name no command.
+const NO_COMMANDS: [&str; 28] = [
+    "",
+    "solo a",
+    "solo a q q",
+    "find a q",
+    "search a q",
+    "trial 1",
+    "solo -a q",
+    "solo a --q",
+    "verify",
+    "verify a",
+    "verify a q q",
+    "verify -a q",
+    "verify a --q",
+    "pack",
+    "pack t",
+    "pack t a a",
+    "pack -t a",
+    "pack t --a",
+    "solo a q --frames 0",
+    "rehearse a q",
+    "info",
+    "info a a",
+    "info -a",
+    "info a --summary",
+    "--help",
+    "help",
+    "info --help",
+    "solo -h",
+];
+
 #[test]
 fn words_that_are_not_read_give_usage(rt: HostRuntime) -> Result<(), Fail> {
-    let lines = [
-        "",
-        "solo a",
-        "solo a q q",
-        "find a q",
-        "search a q",
-        "solo -a q",
-        "solo a --q",
-        "verify",
-        "verify a",
-        "verify a q q",
-        "verify -a q",
-        "verify a --q",
-        "pack",
-        "pack t",
-        "pack t a a",
-        "pack -t a",
-        "pack t --a",
-    ];
-    for line in lines {
+    for line in NO_COMMANDS {
         let plan = Plan::calm(rt.alloc(), 100);
         let shelf = shelf_of(rt.alloc(), EIGHT_CELLS, AT_LEAST_NINE, plan)?;
         let ran = run_line(rt.alloc(), line, shelf, 0, Vec::new(rt.alloc()))?;

@@ -1,5 +1,4 @@
-use Rattle.std.proofs.Common.{rules, ◌≡◌, subst}
-use Rattle.std.proofs.lemmas.Grind.{common_steps}
+use Rattle.std.proofs.Common.{◌≡◌, subst}
 use Rattle.grid_cells.specs.Placing.{PlacesChunk}
 use Rattle.chunk_store.proofs.Placed.{one_more_placed}
 use Rattle.chunk_store.proofs.array.add_chunk.Goals as goal

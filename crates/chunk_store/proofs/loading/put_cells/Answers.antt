@@ -1,4 +1,4 @@
-use Rattle.std.proofs.Common.{◌≡◌, ℕ, ◌+◌, ◌*◌, pos, arith}
+use Rattle.std.proofs.Common.{◌+◌, ◌*◌, pos, arith}
 use Rattle.std.proofs.lemmas.List.FromFn.{fill_by_all}
 use Rattle.grid_cells.specs.declared.cell.Cell.{Cell}
 use Rattle.array_file.specs.Stored.{cell_at}

@@ -1,10 +1,10 @@
-use Rattle.std.proofs.Common.{◌≡◌, ◌+◌, ◌*◌, ◌-◌, length, take, drop, length-take, length-drop, arith, ℕ, sym, ◌∙◌, rules, subst}
+use Rattle.std.proofs.Common.{◌≡◌, ◌+◌, ◌*◌, ◌-◌, length, take, drop, length-take, length-drop, arith, rules, subst}
 use Rattle.std.proofs.lemmas.Grind.{common_steps}
 use Rattle.grid_cells.specs.declared.cell.Cell.{Cell}
 use Rattle.chunk_store.specs.Loaded.{HoldsFrom}
 use Rattle.chunk_store.specs.Pieces.{AsksPieces}
 use Rattle.chunk_store.proofs.Behind.{asks_none, asks_behind, asks_wider}
-use Rattle.chunk_store.proofs.Held.{holds_none, holds_more, holds_all}
+use Rattle.chunk_store.proofs.Held.{holds_none, holds_more}
 use Rattle.chunk_store.proofs.loading.read_pieces.Goals as goal
 
 pub loop-done-init : goal.loop-done-init

@@ -9,6 +9,6 @@ pub returns-clause-record : goal.returns-clause-record
 returns-clause-record c =
     let from_fits : SFits w64 c.args.side.now.from = search rules in
     let to_fits : SFits w64 c.args.side.now.to = search rules in
-    let is = simp to_z-of_z at c.fold.ensures.record in
+    let is = simp to_z-of_z at c.fold_lanes.ensures.record in
     let size : unsigned_abs c.args.side.now.to * c.args.size - unsigned_abs c.args.side.now.from * c.args.size ≡ (unsigned_abs c.args.side.now.to - unsigned_abs c.args.side.now.from) * c.args.size = times-sub (unsigned_abs c.args.side.now.to) (unsigned_abs c.args.side.now.from) c.args.size in
     is ∙ ap (λ n. record_of (filter_map cell_value (take n (drop (unsigned_abs c.args.side.now.from * c.args.size) c.args.cells.now)))) size

@@ -1,5 +1,5 @@
 use Rattle.std.proofs.Common.{sym, subst}
-use Rattle.search_run.specs.Commands.{named}
+use Rattle.command_words.specs.Commands.{named}
 use Rattle.search_run.specs.Verdict.{told_command_output}
 use Rattle.search_run.specs.Ends.{Prints}
 use Rattle.search_run.proofs.Packing.{prints_no_text}

@@ -4,10 +4,14 @@
 use super::*;
 
 /// The 21 numbers of a header.
-type Header = [u32; 21];
+pub(super) type Header = [u32; 21];
 
 /// The bytes of a file with this header and these cells, as they stand in its chunks.
-fn file_of(alloc: Global, header: &Header, cells: &[i32]) -> Result<Vec<u8>, AllocError> {
+pub(super) fn file_of(
+    alloc: Global,
+    header: &Header,
+    cells: &[i32],
+) -> Result<Vec<u8>, AllocError> {
     let mut bytes = Vec::from_slice(alloc, b"SEARCHLIGHT\n")?;
     for number in header {
         bytes.extend_from_slice(&number.to_le_bytes())?;
@@ -19,25 +23,25 @@ fn file_of(alloc: Global, header: &Header, cells: &[i32]) -> Result<Vec<u8>, All
 }
 
 /// Five cells in chunks of two: 1 2 | 3 4 | 5.
-const LINE: Header = [
+pub(super) const LINE: Header = [
     1, 1, 5, 1, 1, 2, 1, 1, 1, 2, 1, 1, 0, 0, 0, 0, 0, 0, 0, 0, 0,
 ];
 
-const LINE_CELLS: [i32; 6] = [1, 2, 3, 4, 5, 99];
+pub(super) const LINE_CELLS: [i32; 6] = [1, 2, 3, 4, 5, 99];
 
 /// Three by four cells, 1 to 12, in chunks of two by two.
-const PLANE: Header = [
+pub(super) const PLANE: Header = [
     1, 2, 3, 4, 1, 2, 2, 1, 1, 2, 2, 1, 0, 0, 0, 0, 0, 0, 0, 0, 0,
 ];
 
-const PLANE_CELLS: [i32; 16] = [1, 2, 5, 6, 3, 4, 7, 8, 9, 10, 99, 99, 11, 12, 99, 99];
+pub(super) const PLANE_CELLS: [i32; 16] = [1, 2, 5, 6, 3, 4, 7, 8, 9, 10, 99, 99, 11, 12, 99, 99];
 
 /// Two by three by three cells, 1 to 18, in chunks of one by two by two, with two levels of blocks.
-const SPACE: Header = [
+pub(super) const SPACE: Header = [
     1, 3, 2, 3, 3, 1, 2, 2, 2, 1, 1, 2, 2, 2, 4, 0, 0, 0, 0, 0, 0,
 ];
 
-const SPACE_CELLS: [i32; 32] = [
+pub(super) const SPACE_CELLS: [i32; 32] = [
     1, 2, 4, 5, 3, 99, 6, 99, 7, 8, 99, 99, 9, 99, 99, 99, 10, 11, 13, 14, 12, 99, 15, 99, 16, 17,
     99, 99, 18, 99, 99, 99,
 ];

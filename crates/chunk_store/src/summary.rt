@@ -1,0 +1,104 @@
+//! The record of all cells of an array file.
+ghost use Rattle.std.specs.Prelude.{◌≡◌, ◌+◌, ◌<◌, ◌≤◌, length, IfOk, OnErr, IsErrOf};
+ghost use Rattle.source_io.specs.Told.{Rose};
+ghost use Rattle.grid_cells.specs.Numbers.{product};
+ghost use Rattle.grid_cells.specs.Chunks.{chunk_cells, chunk_count};
+ghost use Rattle.grid_cells.specs.Rules.{IsLayout};
+ghost use Rattle.array_file.specs.Header.{file_size};
+ghost use Rattle.array_file.specs.Stored.{chunk_start};
+ghost use Rattle.chunk_store.specs.Pieces.{AsksPieces, chunk_end};
+ghost use Rattle.chunk_store.specs.Summaries.{IsRecordOfCells, IsRecordOfArray, SumsFirst};
+
+use crate::array::CellsFault;
+use crate::{Frame, load};
+use grid_cells::{Layout, Record, merge};
+use source_io::{ByteSource, Failed};
+use std::alloc::Global;
+
+/// The record of no cells.
+const NO_CELLS: Record = Record {
+    least: 0,
+    greatest: 0,
+    sum: 0,
+    count: 0,
+};
+
+/// Loads chunk `n` into the frame and gives the record of the first `n + 1` chunks, from that of the first `n`.
+fn add_record<S: ByteSource>(
+    layout: &Layout,
+    n: u32,
+    src: &mut S,
+    frame: &mut Frame,
+    all: Record,
+) -> Result<Record, Failed>
+    requires rules { IsLayout layout.now }
+    requires chunk { n < chunk_count layout.now }
+    requires whole { file_size layout.now ≤ S.len src.old }
+    requires frame { length frame.old.cells ≡ chunk_cells layout.now }
+    requires all { SumsFirst (S.bytes src.old) layout.now n all }
+    ensures all { IfOk result (λ r. SumsFirst (S.bytes src.old) layout.now (n + 1) r) }
+    ensures frame { length frame.new.cells ≡ chunk_cells layout.now }
+    ensures cause { OnErr result (Rose (S.faults src.old) (S.faults src.new)) }
+    ensures faults { S.faults src.old ≤ S.faults src.new }
+    ensures asked { AsksPieces (S.asked src.old) (S.asked src.new) (chunk_start layout.now n) (chunk_end layout.now n) }
+    ensures same_bytes { S.bytes src.new ≡ S.bytes src.old }
+    ensures same_len { S.len src.new ≡ S.len src.old }
+    ensures same_name { S.opened_as src.new ≡ S.opened_as src.old }
+{
+    load(layout, n, src, frame)?;
+    let one = layout.chunk_record(n, frame.cells());
+    Ok(merge(all, one))
+}
+
+/// Loads each chunk once, in order, and gives the record of all.
+fn add_records<S: ByteSource>(
+    layout: &Layout,
+    src: &mut S,
+    frame: &mut Frame,
+) -> Result<Record, Failed>
+    requires whole { file_size layout.now ≤ S.len src.old }
+    requires frame { length frame.old.cells ≡ chunk_cells layout.now }
+    ensures record { IfOk result (λ r. IsRecordOfCells (S.bytes src.old) layout.now r) }
+    ensures array { IfOk result (λ r. IsRecordOfArray (S.bytes src.old) layout.now r) }
+    ensures count { IfOk result (λ r. r.count ≤ product layout.now.extents) }
+    ensures cause { OnErr result (Rose (S.faults src.old) (S.faults src.new)) }
+    ensures faults { S.faults src.old ≤ S.faults src.new }
+    ensures asked { AsksPieces (S.asked src.old) (S.asked src.new) 96 (file_size layout.now) }
+    ensures same_bytes { S.bytes src.new ≡ S.bytes src.old }
+    ensures same_len { S.len src.new ≡ S.len src.old }
+    ensures same_name { S.opened_as src.new ≡ S.opened_as src.old }
+{
+    let mut all = NO_CELLS;
+    for n in 0..layout.chunks() {
+        all = add_record(layout, n, src, frame, all)?;
+    }
+    Ok(all)
+}
+
+/// The record of all cells of a file of this layout. Each chunk is loaded once, in order, into one frame, so
+/// that no more than one chunk is in memory; its padding is not counted. All memory is taken before the source
+/// is read. `Read` where the source counted a fault, and `NoMemory` where memory ran out. Source: own.
+pub fn array_record<S: ByteSource>(
+    alloc: Global,
+    layout: &Layout,
+    src: &mut S,
+) -> Result<Record, CellsFault>
+    requires { file_size layout.now ≤ S.len src.old }
+    ensures record { IfOk result (λ r. IsRecordOfCells (S.bytes src.old) layout.now r) }
+    ensures array { IfOk result (λ r. IsRecordOfArray (S.bytes src.old) layout.now r) }
+    ensures count { IfOk result (λ r. r.count ≤ product layout.now.extents) }
+    ensures cause { IsErrOf result CellsFault.Read → Rose (S.faults src.old) (S.faults src.new) }
+    ensures faults { S.faults src.old ≤ S.faults src.new }
+    ensures asked { AsksPieces (S.asked src.old) (S.asked src.new) 96 (file_size layout.now) }
+    ensures same_bytes { S.bytes src.new ≡ S.bytes src.old }
+    ensures same_len { S.len src.new ≡ S.len src.old }
+    ensures same_name { S.opened_as src.new ≡ S.opened_as src.old }
+{
+    let Ok(mut frame) = Frame::new(alloc, layout) else {
+        return Err(CellsFault::NoMemory);
+    };
+    match add_records(layout, src, &mut frame) {
+        Ok(all) => Ok(all),
+        Err(_) => Err(CellsFault::Read),
+    }
+}

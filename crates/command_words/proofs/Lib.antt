@@ -1,0 +1,6 @@
+mod WordKinds
+mod Walks
+mod Pairs
+mod PairLaws
+mod Singles
+mod Reading

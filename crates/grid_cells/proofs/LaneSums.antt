@@ -1,0 +1,67 @@
+-- Summaries of numbers, of two lists and by lanes.
+use Rattle.std.proofs.Common.{◌≡◌, ℕ, ◌+◌, ◌*◌, ◌^◌, ◌-◌, ◌≤◌, max, min, List, [], ◌∷◌, ◌++◌, length, map, refl, cond, ltb, w32, arith}
+use borrow.Author.Tests.{ltb-true, ltb-false}
+use Rattle.std.proofs.lemmas.Bool.{cond_both}
+use Rattle.std.proofs.lemmas.Simd.{sum_bound, Each1-weaker}
+use lib.Lanes.{zip2, sel_l, sum_l, Each1}
+use mir.Val.{Fits}
+use Rattle.grid_cells.specs.Lanes.{most, lowest}
+
+-- ---- the larger and the smaller lanes
+
+max_by_test : (x y : ℕ) → cond (ltb x y) y x ≡ max x y
+max_by_test x y = cond_both (ltb x y) y x (λ z. z ≡ max x y) (λ e. omega (arith, ltb-true x y e)) (λ e. omega (arith, ltb-false x y e))
+
+min_by_test : (x y : ℕ) → cond (ltb x y) x y ≡ min x y
+min_by_test x y = cond_both (ltb x y) x y (λ z. z ≡ min x y) (λ e. omega (arith, ltb-true x y e)) (λ e. omega (arith, ltb-false x y e))
+
+pub sel_l-max : (a b : List ℕ) → length a ≡ length b → sel_l (zip2 ltb a b) b a ≡ zip2 max a b
+sel_l-max [] [] e = refl
+sel_l-max [] (y ∷ b) e = absurd (omega arith)
+sel_l-max (x ∷ a) [] e = absurd (omega arith)
+sel_l-max (x ∷ a) (y ∷ b) e = let rest = sel_l-max a b (omega arith) in λ i. max_by_test x y i ∷ rest i
+
+pub sel_l-min : (a b : List ℕ) → length a ≡ length b → sel_l (zip2 ltb a b) a b ≡ zip2 min a b
+sel_l-min [] [] e = refl
+sel_l-min [] (y ∷ b) e = absurd (omega arith)
+sel_l-min (x ∷ a) [] e = absurd (omega arith)
+sel_l-min (x ∷ a) (y ∷ b) e = let rest = sel_l-min a b (omega arith) in λ i. min_by_test x y i ∷ rest i
+
+pub most-zip2 : (a b : List ℕ) → length a ≡ length b → most (zip2 max a b) ≡ max (most a) (most b)
+most-zip2 [] [] e = refl
+most-zip2 [] (y ∷ b) e = absurd (omega arith)
+most-zip2 (x ∷ a) [] e = absurd (omega arith)
+most-zip2 (x ∷ a) (y ∷ b) e = omega (arith, most-zip2 a b (omega arith))
+
+pub lowest-zip2 : (a b : List ℕ) → length a ≡ length b → lowest (zip2 min a b) ≡ min (lowest a) (lowest b)
+lowest-zip2 [] [] e = refl
+lowest-zip2 [] (y ∷ b) e = absurd (omega arith)
+lowest-zip2 (x ∷ a) [] e = absurd (omega arith)
+lowest-zip2 (x ∷ a) (y ∷ b) e = omega (arith, lowest-zip2 a b (omega arith))
+
+-- ---- two lists one after the other
+
+pub lowest_le : (ns : List ℕ) → lowest ns ≤ 2 ^ 32 - 1
+lowest_le [] = omega arith
+lowest_le (n ∷ ns) = omega (arith, lowest_le ns)
+
+pub most-append : (xs ys : List ℕ) → most (xs ++ ys) ≡ max (most xs) (most ys)
+most-append [] ys = omega arith
+most-append (x ∷ xs) ys = omega (arith, most-append xs ys)
+
+pub lowest-append : (xs ys : List ℕ) → lowest (xs ++ ys) ≡ min (lowest xs) (lowest ys)
+lowest-append [] ys = omega (arith, lowest_le ys)
+lowest-append (x ∷ xs) ys = omega (arith, lowest-append xs ys)
+
+pub sum_l-append : (xs ys : List ℕ) → sum_l (xs ++ ys) ≡ sum_l xs + sum_l ys
+sum_l-append [] ys = omega arith
+sum_l-append (x ∷ xs) ys = omega (arith, sum_l-append xs ys)
+
+pub sum_l-ones_le : (ns : List ℕ) → sum_l (map (λ n. min n 1) ns) ≤ length ns
+sum_l-ones_le [] = omega arith
+sum_l-ones_le (n ∷ ns) = omega (arith, sum_l-ones_le ns)
+
+-- ---- how large the sums of lanes are
+
+pub sum_l-of_32_bits : (ns : List ℕ) → Each1 (Fits w32) ns → sum_l ns ≤ 2 ^ 32 * length ns
+sum_l-of_32_bits ns fit = sum_bound (2 ^ 32) ns (Each1-weaker (Fits w32) (λ n. n ≤ 2 ^ 32) (λ n fits. omega (arith, fits.fits)) ns fit)

@@ -1,0 +1,35 @@
+-- Cells as numbers from 0 on, and four summaries of such numbers in lanes.
+use Rattle.std.specs.Prelude.{ℕ, ◌≡◌, ◌+◌, ◌-◌, ◌%◌, ◌^◌, max, min, ◌+ℤ◌, pos, unsigned_abs, List, [], ◌∷◌, map}
+use Rattle.std.specs.List.{flat_map}
+use Rattle.std.specs.Simd.Lanes.{sum_l}
+use Rattle.grid_cells.specs.declared.cell.Cell.{Cell}
+use Rattle.grid_cells.specs.declared.lanes.Lanes.{Lanes}
+
+-- how far a cell is above the least that 32 bits hold: 0 where it is empty
+abbrev pub biased : Cell → ℕ
+biased c = unsigned_abs (c.0 +ℤ pos (2 ^ 31))
+
+-- one less, and the most that 32 bits hold in place of one less than 0
+abbrev pub lowered : ℕ → ℕ
+lowered n = (n + (2 ^ 32 - 1)) % 2 ^ 32
+
+-- the largest, 0 for none
+abbrev pub most : List ℕ → ℕ
+most [] = 0
+most (n ∷ ns) = max n (most ns)
+
+-- the smallest, the most that 32 bits hold for none
+abbrev pub lowest : List ℕ → ℕ
+lowest [] = 2 ^ 32 - 1
+lowest (n ∷ ns) = min n (lowest ns)
+
+-- the cells of all these eights
+abbrev pub cells_of_eights : List (List Cell) → List Cell
+cells_of_eights eights = flat_map (λ eight. eight) eights
+
+-- these lanes sum up the biased cells ns
+pub record SumsUp (lanes : Lanes) (ns : List ℕ) : Type 0 where
+  pub least : lowest lanes.least ≡ lowest (map lowered ns)
+  pub greatest : most lanes.greatest ≡ most ns
+  pub count : sum_l lanes.count ≡ sum_l (map (λ n. min n 1) ns)
+  pub sum : sum_l lanes.sum ≡ sum_l ns

@@ -1,0 +1,345 @@
+//! The record of many cells, eight at a time, in lanes.
+ghost use Rattle.std.specs.Prelude.{◌≡◌, ◌≤◌, ◌<◌, ◌+◌, ◌*◌, ◌^◌, ◌+ℤ◌, pos, List, [], ℕ, ◌++◌, max, min, length, map, filter_map, FitsSigned};
+ghost use Rattle.std.specs.Int.{w32};
+ghost use Rattle.std.specs.Simd.Lanes.{zip2, sum_l, Each1};
+ghost use Rattle.grid_cells.specs.Cells.{cell_value};
+ghost use Rattle.grid_cells.specs.Lanes.{biased, cells_of_eights, lowered, most, lowest, SumsUp};
+ghost use Rattle.grid_cells.specs.Numbers.{IsWithin};
+ghost use Rattle.grid_cells.specs.Records.{record_of};
+
+use crate::Cell;
+use crate::record::{NOTHING, Record, fold, merge};
+use std::simd::prelude::*;
+
+/// The record of these cells, at most 2^26, as `fold` gives it, in one pass by eight lanes. Fewer than 24
+/// cells, for which lanes are slower, are left to `fold`. Source: own.
+pub fn fold_lanes(cells: &[Cell]) -> Record
+    requires { length cells.now ≤ 2 ^ 26 }
+    ensures record { result ≡ record_of (filter_map cell_value cells.now) }
+    ensures few { result.count ≤ length cells.now }
+    ensures each { IsWithin result.sum (2 ^ 31 * result.count) }
+    ensures within { IsWithin result.sum (2 ^ 57) }
+{
+    if cells.len() < 24 {
+        fold(cells)
+    } else {
+        let (eights, rest) = cells.as_chunks::<8>();
+        merge(eights_record(eights), fold(rest))
+    }
+}
+
+/// What eight lanes each sum up of biased cells: the least of those lowered by one, the greatest, how many
+/// are not 0, and the sum.
+#[derive(Clone, Copy)]
+struct Lanes {
+    least: u32x8,
+    greatest: u32x8,
+    count: u32x8,
+    sum: u64x8,
+}
+
+impl Lanes {
+    /// The lanes of no cells.
+    fn new() -> Lanes
+        ensures value { SumsUp result [] }
+        ensures count { sum_l result.count ≡ 0 }
+        ensures sum { sum_l result.sum ≡ 0 }
+    {
+        Lanes {
+            least: u32x8::splat(u32::MAX),
+            greatest: u32x8::splat(0),
+            count: u32x8::splat(0),
+            sum: u64x8::splat(0),
+        }
+    }
+
+    /// The lanes of eight biased cells more.
+    fn with(self, eight: u32x8) -> Lanes
+        requires count { sum_l self.count + 8 < 2 ^ 32 }
+        requires sum { sum_l self.sum + 2 ^ 35 < 2 ^ 64 }
+        ensures value { (ns : List ℕ) → SumsUp self ns → SumsUp result (ns ++ eight) }
+        ensures count { sum_l result.count ≤ sum_l self.count + 8 }
+        ensures sum { sum_l result.sum ≤ sum_l self.sum + 2 ^ 35 }
+    {
+        Lanes {
+            least: smaller(self.least, lowered(eight)),
+            greatest: larger(self.greatest, eight),
+            count: added(self.count, smaller(eight, u32x8::splat(1))),
+            sum: added_wide(self.sum, eight),
+        }
+    }
+}
+
+/// The record of the cells of these eights, at most 2^23.
+fn eights_record(eights: &[[Cell; 8]]) -> Record
+    requires { length eights.now ≤ 2 ^ 23 }
+    ensures record { result ≡ record_of (filter_map cell_value (cells_of_eights eights.now)) }
+    ensures few { result.count ≤ 8 * length eights.now }
+    ensures each { IsWithin result.sum (2 ^ 31 * result.count) }
+{
+    let all = eights_lanes(eights);
+    let count = total(all.count);
+    if count == 0 {
+        NOTHING
+    } else {
+        Record {
+            least: number(lowest(&all.least.to_array()) + 1),
+            greatest: number(most(&all.greatest.to_array())),
+            sum: unbiased_sum(total_wide(all.sum), count),
+            count,
+        }
+    }
+}
+
+/// The lanes of the cells of these eights, at most 2^23.
+fn eights_lanes(eights: &[[Cell; 8]]) -> Lanes
+    requires { length eights.now ≤ 2 ^ 23 }
+    ensures value { SumsUp result (map biased (cells_of_eights eights.now)) }
+    ensures fits { Each1 (λ c. FitsSigned w32 c.0) (cells_of_eights eights.now) }
+    ensures count { sum_l result.count ≤ 8 * length eights.now }
+    ensures sum { sum_l result.sum ≤ 2 ^ 35 * length eights.now }
+{
+    let mut all = Lanes::new();
+    for eight in eights {
+        all = all.with(biased_of(eight));
+    }
+    all
+}
+
+/// A cell as the number of how far it is above the least that 32 bits hold, so that 0 stands for an empty
+/// one: its bits with the top bit turned.
+fn biased(c: Cell) -> u32
+    ensures value { result ≡ biased c }
+    ensures fits { FitsSigned w32 c.0 }
+{
+    c.0.cast_unsigned().wrapping_add(2147483648)
+}
+
+/// The number of the cell that is so far above the least that 32 bits hold.
+fn number(n: u32) -> i32
+    ensures { result +ℤ pos (2 ^ 31) ≡ pos n }
+{
+    n.wrapping_sub(2147483648).cast_signed()
+}
+
+/// Eight cells, each biased.
+fn biased_of(cells: &[Cell; 8]) -> u32x8
+    ensures value { result ≡ map biased cells.now }
+    ensures fits { Each1 (λ c. FitsSigned w32 c.0) cells.now }
+{
+    u32x8::from_array([
+        biased(cells[0]),
+        biased(cells[1]),
+        biased(cells[2]),
+        biased(cells[3]),
+        biased(cells[4]),
+        biased(cells[5]),
+        biased(cells[6]),
+        biased(cells[7]),
+    ])
+}
+
+/// The larger number in each lane.
+fn larger(a: u32x8, b: u32x8) -> u32x8
+    ensures { most result ≡ max (most a) (most b) }
+{
+    a.simd_lt(b).select(b, a)
+}
+
+/// The smaller number in each lane.
+fn smaller(a: u32x8, b: u32x8) -> u32x8
+    ensures lanes { result ≡ zip2 min a b }
+    ensures lowest { lowest result ≡ min (lowest a) (lowest b) }
+{
+    a.simd_lt(b).select(a, b)
+}
+
+/// One less in each lane; the most that 32 bits hold in place of one less than 0.
+fn lowered(a: u32x8) -> u32x8
+    ensures { result ≡ map lowered a }
+{
+    a - u32x8::splat(1)
+}
+
+/// The sum in each lane.
+fn added(a: u32x8, b: u32x8) -> u32x8
+    requires { sum_l a + sum_l b < 2 ^ 32 }
+    ensures { sum_l result ≡ sum_l a + sum_l b }
+{
+    a.strict_add(b)
+}
+
+/// The sum in each lane.
+fn added_wide(a: u64x8, b: u32x8) -> u64x8
+    requires { sum_l a + sum_l b < 2 ^ 64 }
+    ensures { sum_l result ≡ sum_l a + sum_l b }
+{
+    a.strict_add(b.cast::<u64>())
+}
+
+/// The sum of all lanes.
+fn total(a: u32x8) -> u32
+    requires { sum_l a < 2 ^ 32 }
+    ensures { result ≡ sum_l a }
+{
+    a.strict_reduce_sum()
+}
+
+/// The sum of all lanes.
+fn total_wide(a: u64x8) -> u64
+    requires { sum_l a < 2 ^ 64 }
+    ensures { result ≡ sum_l a }
+{
+    a.strict_reduce_sum()
+}
+
+/// The sum of so many numbers, of which this is the sum with each of them biased.
+fn unbiased_sum(sum: u64, count: u32) -> i64
+    requires { sum < 2 ^ 63 }
+    ensures { result +ℤ pos (2 ^ 31 * count) ≡ pos sum }
+{
+    sum as i64 - count as i64 * 2147483648
+}
+
+/// The largest number, 0 for none.
+fn most(numbers: &[u32]) -> u32
+    ensures { result ≡ most numbers.now }
+{
+    let mut all = 0;
+    for n in numbers {
+        if *n > all {
+            all = *n;
+        }
+    }
+    all
+}
+
+/// The smallest number, the most that 32 bits hold for none.
+fn lowest(numbers: &[u32]) -> u32
+    ensures { result ≡ lowest numbers.now }
+{
+    let mut all = u32::MAX;
+    for n in numbers {
+        if *n < all {
+            all = *n;
+        }
+    }
+    all
+}
+
+#[cfg(test)]
+mod tests {
+    use super::*;
+
+    const EMPTY: Cell = Cell(-2147483648);
+
+    /// A record of these four numbers.
+    fn record(least: i32, greatest: i32, sum: i64, count: u32) -> Record {
+        Record {
+            least,
+            greatest,
+            sum,
+            count,
+        }
+    }
+
+    #[test]
+    fn folds_lengths_about_those_of_lanes(rt: HostRuntime) {
+        let cells = [
+            Cell(3),
+            Cell(-1),
+            EMPTY,
+            Cell(4),
+            Cell(1),
+            Cell(-5),
+            Cell(9),
+            Cell(2),
+            Cell(-6),
+            Cell(5),
+            Cell(3),
+            EMPTY,
+            Cell(5),
+            Cell(-8),
+            Cell(9),
+            Cell(7),
+            Cell(9),
+            Cell(-9),
+            EMPTY,
+            Cell(12),
+            Cell(0),
+            Cell(-2),
+            EMPTY,
+            Cell(6),
+            Cell(-11),
+            Cell(8),
+            Cell(1),
+            EMPTY,
+            Cell(-4),
+            Cell(10),
+            Cell(2),
+            Cell(-13),
+            Cell(20),
+        ];
+        assert_eq!(rt; fold_lanes(&cells[..0]), record(0, 0, 0, 0));
+        assert_eq!(rt; fold_lanes(&cells[..1]), record(3, 3, 3, 1));
+        assert_eq!(rt; fold_lanes(&cells[..7]), record(-5, 9, 11, 6));
+        assert_eq!(rt; fold_lanes(&cells[..8]), record(-5, 9, 13, 7));
+        assert_eq!(rt; fold_lanes(&cells[..9]), record(-6, 9, 7, 8));
+        assert_eq!(rt; fold_lanes(&cells[..16]), record(-8, 9, 28, 14));
+        assert_eq!(rt; fold_lanes(&cells[..17]), record(-8, 9, 37, 15));
+        assert_eq!(rt; fold_lanes(&cells[..23]), record(-9, 12, 38, 19));
+        assert_eq!(rt; fold_lanes(&cells[..24]), record(-9, 12, 44, 20));
+        assert_eq!(rt; fold_lanes(&cells[..25]), record(-11, 12, 33, 21));
+        assert_eq!(rt; fold_lanes(&cells[..31]), record(-11, 12, 50, 26));
+        assert_eq!(rt; fold_lanes(&cells[..32]), record(-13, 12, 37, 27));
+        assert_eq!(rt; fold_lanes(&cells), record(-13, 20, 57, 28));
+    }
+
+    #[test]
+    fn empty_cells_have_no_part(rt: HostRuntime) {
+        let mut cells = [EMPTY; 33];
+        assert_eq!(rt; fold_lanes(&cells[..8]), record(0, 0, 0, 0));
+        assert_eq!(rt; fold_lanes(&cells[..24]), record(0, 0, 0, 0));
+        assert_eq!(rt; fold_lanes(&cells), record(0, 0, 0, 0));
+        cells[32] = Cell(-7);
+        assert_eq!(rt; fold_lanes(&cells), record(-7, -7, -7, 1));
+        cells[32] = EMPTY;
+        cells[5] = Cell(6);
+        assert_eq!(rt; fold_lanes(&cells), record(6, 6, 6, 1));
+    }
+
+    #[test]
+    fn folds_the_numbers_at_both_ends(rt: HostRuntime) {
+        let mut cells = [EMPTY; 24];
+        cells[3] = Cell(-2147483647);
+        assert_eq!(rt;
+            fold_lanes(&cells),
+            record(-2147483647, -2147483647, -2147483647, 1)
+        );
+        cells[17] = Cell(2147483647);
+        assert_eq!(rt; fold_lanes(&cells), record(-2147483647, 2147483647, 0, 2));
+        let low = [Cell(-2147483647); 25];
+        assert_eq!(rt;
+            fold_lanes(&low),
+            record(-2147483647, -2147483647, -53687091175, 25)
+        );
+        let high = [Cell(2147483647); 25];
+        assert_eq!(rt;
+            fold_lanes(&high),
+            record(2147483647, 2147483647, 53687091175, 25)
+        );
+    }
+
+    #[test]
+    fn is_the_record_that_one_cell_after_the_other_gives(rt: HostRuntime) {
+        let mut cells = [EMPTY; 100];
+        for i in 0..100 {
+            if i % 7 != 3 {
+                cells[i] = Cell(i as i32 * 7919 % 1000 - 700);
+            }
+        }
+        assert_eq!(rt; fold_lanes(&cells), fold(&cells));
+        assert_eq!(rt; fold_lanes(&cells[1..]), fold(&cells[1..]));
+        assert_eq!(rt; fold_lanes(&cells[5..50]), fold(&cells[5..50]));
+    }
+}
