@@ -6,6 +6,7 @@ use Rattle.std.specs.Ordering.{int_eq}
 use Rattle.std.specs.Simd.{first_chunks}
 use Rattle.std.proofs.lemmas.Int.{ints, clamps}
 use Rattle.std.proofs.lemmas.Bool.{cond_both}
+use Rattle.std.proofs.lemmas.List.{length-append}
 use Rattle.std.proofs.lemmas.Bool.Decides.{Decides-int_eq, not_from_Decides}
 use Rattle.std.proofs.Math.Seq.{take-add}
 use lib.Lanes.{sum_l, Each1}
@@ -122,11 +123,48 @@ lowest-some cells h some =
         (λ e some'. least_le cells h.1 some')
         (λ ne some'. let more = least-cons c.0 (filter_map cell_value cells) (omega (arith, ints)) in omega (arith, ints, clamps)) some
 
+-- ---- cells of which none is empty
+
+pub all-present : (cells : List Cell) → Each1 (λ c. SFits w32 c.0) cells → (lowest (map biased cells) ≡ 0 → ⊥) → length (filter_map cell_value cells) ≡ length cells
+all-present [] h some = refl
+all-present (c ∷ cells) h some =
+    let here = biased_is c h.0 in
+    cell_cases c (λ o. length (cons_option o (filter_map cell_value cells)) ≡ length (c ∷ cells))
+    (λ e. let none : biased c ≡ 0 = omega (arith, ints) in absurd (some (omega arith)))
+    (λ ne. let rest = all-present cells h.1 (λ none. some (omega arith)) in omega arith)
+
+-- the first of cells of which none is empty
+one_less_present : (c : Cell) (cells : List Cell) → SFits w32 c.0 → (lowest (map biased (c ∷ cells)) ≡ 0 → ⊥) → lowered (biased c) + 1 ≡ biased c
+one_less_present c cells fits some =
+    let here = biased_is c fits in
+    let most = most_of_32_bits c.0 fits in
+    let present : biased c ≡ 0 → ⊥ = (λ none. some (omega arith)) in
+    omega (arith, ints, present)
+
+pub lowest-present : (cells : List Cell) → Each1 (λ c. SFits w32 c.0) cells → 0 < length cells → (lowest (map biased cells) ≡ 0 → ⊥)
+    → lowest (map lowered (map biased cells)) + 1 ≡ lowest (map biased cells)
+lowest-present [] h long some = absurd (omega arith)
+lowest-present (c ∷ []) h long some =
+    let one_less = one_less_present c [] h.0 some in
+    let here = biased_is c h.0 in
+    let most = most_of_32_bits c.0 h.0 in
+    omega (arith, ints)
+lowest-present (c ∷ d ∷ cells) h long some =
+    let one_less = one_less_present c (d ∷ cells) h.0 some in
+    let rest = lowest-present (d ∷ cells) h.1 (omega arith) (λ none. some (omega arith)) in
+    omega arith
+
 -- ---- eights
 
 pub cells_of_eights-first_chunks : (k : ℕ) (xs : List Cell) → cells_of_eights (first_chunks 8 k xs) ≡ take (k * 8) xs
 cells_of_eights-first_chunks zero xs = refl
 cells_of_eights-first_chunks (suc k) xs = ap (λ ys. take 8 xs ++ ys) (cells_of_eights-first_chunks k (drop 8 xs)) ∙ sym (take-add 8 (k * 8) xs) ∙ ap (λ m. take m xs) (omega arith)
+
+pub cells_of_eights-long : (eights : List (List Cell)) → ((i : ℕ) → i < length eights → length (get_or eights i []) ≡ 8) → length (cells_of_eights eights) ≡ 8 * length eights
+cells_of_eights-long [] each = refl
+cells_of_eights-long (eight ∷ eights) each =
+    let rest = cells_of_eights-long eights (λ i lt. each (suc i) (omega (arith, lt))) in
+    omega (arith, length-append eight (cells_of_eights eights), each 0 (omega arith), rest)
 
 pub eight_items : {X : Type 0} (xs : List X) (d : X) → length xs ≡ 8
     → xs ≡ get_or xs 0 d ∷ get_or xs 1 d ∷ get_or xs 2 d ∷ get_or xs 3 d ∷ get_or xs 4 d ∷ get_or xs 5 d ∷ get_or xs 6 d ∷ get_or xs 7 d ∷ []

@@ -1,9 +1,10 @@
--- Cells as numbers from 0 on, and four summaries of such numbers in lanes.
+-- Cells as numbers from 0 on, and summaries of such numbers in lanes.
 use Rattle.std.specs.Prelude.{ℕ, ◌≡◌, ◌+◌, ◌-◌, ◌%◌, ◌^◌, max, min, ◌+ℤ◌, pos, unsigned_abs, List, [], ◌∷◌, map}
 use Rattle.std.specs.List.{flat_map}
 use Rattle.std.specs.Simd.Lanes.{sum_l}
 use Rattle.grid_cells.specs.declared.cell.Cell.{Cell}
 use Rattle.grid_cells.specs.declared.lanes.Lanes.{Lanes}
+use Rattle.grid_cells.specs.declared.lanes.FullLanes.{FullLanes}
 
 -- how far a cell is above the least that 32 bits hold: 0 where it is empty
 abbrev pub biased : Cell → ℕ
@@ -32,4 +33,10 @@ pub record SumsUp (lanes : Lanes) (ns : List ℕ) : Type 0 where
   pub least : lowest lanes.least ≡ lowest (map lowered ns)
   pub greatest : most lanes.greatest ≡ most ns
   pub count : sum_l lanes.count ≡ sum_l (map (λ n. min n 1) ns)
+  pub sum : sum_l lanes.sum ≡ sum_l ns
+
+-- these lanes sum up the biased cells ns, of which each is taken for a present one
+pub record SumsUpFull (lanes : FullLanes) (ns : List ℕ) : Type 0 where
+  pub least : lowest lanes.least ≡ lowest ns
+  pub greatest : most lanes.greatest ≡ most ns
   pub sum : sum_l lanes.sum ≡ sum_l ns

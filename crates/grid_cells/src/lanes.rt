@@ -1,9 +1,10 @@
 //! The record of many cells, eight at a time, in lanes.
-ghost use Rattle.std.specs.Prelude.{◌≡◌, ◌≤◌, ◌<◌, ◌+◌, ◌*◌, ◌^◌, ◌+ℤ◌, pos, List, [], ℕ, ◌++◌, max, min, length, map, filter_map, FitsSigned};
+ghost use Rattle.std.specs.Prelude.{◌≡◌, ◌≤◌, ◌<◌, ◌+◌, ◌*◌, ◌^◌, ◌+ℤ◌, pos, List, [], ℕ, ◌++◌, max, min, length, map, filter_map, FitsSigned, IfSome, IfNone};
 ghost use Rattle.std.specs.Int.{w32};
 ghost use Rattle.std.specs.Simd.Lanes.{zip2, sum_l, Each1};
 ghost use Rattle.grid_cells.specs.Cells.{cell_value};
-ghost use Rattle.grid_cells.specs.Lanes.{biased, cells_of_eights, lowered, most, lowest, SumsUp};
+ghost use Rattle.grid_cells.specs.Lanes.{biased, cells_of_eights, lowered, most, lowest, SumsUp, SumsUpFull};
+ghost use Rattle.grid_cells.specs.declared.lanes.TheConstants.{BLOCK};
 ghost use Rattle.grid_cells.specs.Numbers.{IsWithin};
 ghost use Rattle.grid_cells.specs.Records.{record_of};
 
@@ -11,8 +12,12 @@ use crate::Cell;
 use crate::record::{NOTHING, Record, fold, merge};
 use std::simd::prelude::*;
 
-/// The record of these cells, at most 2^26, as `fold` gives it, in one pass by eight lanes. Fewer than 24
-/// cells, for which lanes are slower, are left to `fold`. Source: own.
+/// How many cells a block has. They have 16 KiB, which stay in the processor's nearest cache.
+const BLOCK: usize = 4096;
+
+/// The record of these cells, at most 2^26, as `fold` gives it, by eight lanes and block by block. A block behind
+/// one with no empty cell is first taken to have none either, which takes fewer steps, and is folded again by
+/// all steps where it has one. Source: own.
 pub fn fold_lanes(cells: &[Cell]) -> Record
     requires { length cells.now ≤ 2 ^ 26 }
     ensures record { result ≡ record_of (filter_map cell_value cells.now) }
@@ -20,11 +25,32 @@ pub fn fold_lanes(cells: &[Cell]) -> Record
     ensures each { IsWithin result.sum (2 ^ 31 * result.count) }
     ensures within { IsWithin result.sum (2 ^ 57) }
 {
+    let mut all = NOTHING;
+    let mut full = true;
+    let mut done = 0;
+    while done < cells.len() {
+        let n = BLOCK.min(cells.len() - done);
+        let one = block_record(&cells[done..done + n], full);
+        full = one.count as usize == n;
+        all = merge(all, one);
+        done += n;
+    }
+    all
+}
+
+/// The record of the cells of one block. Where `full` says so, it is tried first whether none of them is empty.
+/// Fewer than 24 cells, for which lanes are slower, are left to `fold`.
+fn block_record(cells: &[Cell], full: bool) -> Record
+    requires { length cells.now ≤ BLOCK }
+    ensures record { result ≡ record_of (filter_map cell_value cells.now) }
+    ensures few { result.count ≤ length cells.now }
+    ensures each { IsWithin result.sum (2 ^ 31 * result.count) }
+{
     if cells.len() < 24 {
         fold(cells)
     } else {
         let (eights, rest) = cells.as_chunks::<8>();
-        merge(eights_record(eights), fold(rest))
+        merge(eights_record(eights, full), fold(rest))
     }
 }
 
@@ -70,8 +96,47 @@ impl Lanes {
     }
 }
 
+/// The record of the cells of these eights, at most 2^23. Where `full` says so, it is tried first whether none
+/// of them is empty.
+fn eights_record(eights: &[[Cell; 8]], full: bool) -> Record
+    requires some { 0 < length eights.now }
+    requires few { length eights.now ≤ 2 ^ 23 }
+    ensures record { result ≡ record_of (filter_map cell_value (cells_of_eights eights.now)) }
+    ensures few { result.count ≤ 8 * length eights.now }
+    ensures each { IsWithin result.sum (2 ^ 31 * result.count) }
+{
+    let of_full = if full { full_record(eights) } else { None };
+    match of_full {
+        Some(record) => record,
+        None => mixed_record(eights),
+    }
+}
+
+/// The record of the cells of these eights, at most 2^23, or `None` exactly where one of them is empty.
+fn full_record(eights: &[[Cell; 8]]) -> Option<Record>
+    requires some { 0 < length eights.now }
+    requires few { length eights.now ≤ 2 ^ 23 }
+    ensures record { IfSome result (λ r. r ≡ record_of (filter_map cell_value (cells_of_eights eights.now))) }
+    ensures count { IfSome result (λ r. r.count ≡ 8 * length eights.now) }
+    ensures each { IfSome result (λ r. IsWithin r.sum (2 ^ 31 * r.count)) }
+    ensures none { IfNone result (lowest (map biased (cells_of_eights eights.now)) ≡ 0) }
+{
+    let all = full_lanes(eights);
+    let least = lowest(&all.least.to_array());
+    if least == 0 {
+        return None;
+    }
+    let count = 8 * eights.len() as u32;
+    Some(Record {
+        least: number(least),
+        greatest: number(most(&all.greatest.to_array())),
+        sum: unbiased_sum(total_wide(all.sum), count),
+        count,
+    })
+}
+
 /// The record of the cells of these eights, at most 2^23.
-fn eights_record(eights: &[[Cell; 8]]) -> Record
+fn mixed_record(eights: &[[Cell; 8]]) -> Record
     requires { length eights.now ≤ 2 ^ 23 }
     ensures record { result ≡ record_of (filter_map cell_value (cells_of_eights eights.now)) }
     ensures few { result.count ≤ 8 * length eights.now }
@@ -89,6 +154,55 @@ fn eights_record(eights: &[[Cell; 8]]) -> Record
             count,
         }
     }
+}
+
+/// What eight lanes each sum up of biased cells of which none is empty: the least, the greatest and the sum.
+#[derive(Clone, Copy)]
+struct FullLanes {
+    least: u32x8,
+    greatest: u32x8,
+    sum: u64x8,
+}
+
+impl FullLanes {
+    /// The lanes of no cells.
+    fn new() -> FullLanes
+        ensures value { SumsUpFull result [] }
+        ensures sum { sum_l result.sum ≡ 0 }
+    {
+        FullLanes {
+            least: u32x8::splat(u32::MAX),
+            greatest: u32x8::splat(0),
+            sum: u64x8::splat(0),
+        }
+    }
+
+    /// The lanes of eight biased cells more.
+    fn with(self, eight: u32x8) -> FullLanes
+        requires { sum_l self.sum + 2 ^ 35 < 2 ^ 64 }
+        ensures value { (ns : List ℕ) → SumsUpFull self ns → SumsUpFull result (ns ++ eight) }
+        ensures sum { sum_l result.sum ≤ sum_l self.sum + 2 ^ 35 }
+    {
+        FullLanes {
+            least: smaller(self.least, eight),
+            greatest: larger(self.greatest, eight),
+            sum: added_wide(self.sum, eight),
+        }
+    }
+}
+
+/// The lanes of the cells of these eights, at most 2^23, each taken for a present one.
+fn full_lanes(eights: &[[Cell; 8]]) -> FullLanes
+    requires { length eights.now ≤ 2 ^ 23 }
+    ensures value { SumsUpFull result (map biased (cells_of_eights eights.now)) }
+    ensures fits { Each1 (λ c. FitsSigned w32 c.0) (cells_of_eights eights.now) }
+    ensures sum { sum_l result.sum ≤ 2 ^ 35 * length eights.now }
+{
+    let mut all = FullLanes::new();
+    for eight in eights {
+        all = all.with(biased_of(eight));
+    }
+    all
 }
 
 /// The lanes of the cells of these eights, at most 2^23.
@@ -233,6 +347,43 @@ mod tests {
 
     const EMPTY: Cell = Cell(-2147483648);
 
+    /// Small cells, of which five are empty.
+    const CELLS: [Cell; 33] = [
+        Cell(3),
+        Cell(-1),
+        EMPTY,
+        Cell(4),
+        Cell(1),
+        Cell(-5),
+        Cell(9),
+        Cell(2),
+        Cell(-6),
+        Cell(5),
+        Cell(3),
+        EMPTY,
+        Cell(5),
+        Cell(-8),
+        Cell(9),
+        Cell(7),
+        Cell(9),
+        Cell(-9),
+        EMPTY,
+        Cell(12),
+        Cell(0),
+        Cell(-2),
+        EMPTY,
+        Cell(6),
+        Cell(-11),
+        Cell(8),
+        Cell(1),
+        EMPTY,
+        Cell(-4),
+        Cell(10),
+        Cell(2),
+        Cell(-13),
+        Cell(20),
+    ];
+
     /// A record of these four numbers.
     fn record(least: i32, greatest: i32, sum: i64, count: u32) -> Record {
         Record {
@@ -245,54 +396,19 @@ mod tests {
 
     #[test]
     fn folds_lengths_about_those_of_lanes(rt: HostRuntime) {
-        let cells = [
-            Cell(3),
-            Cell(-1),
-            EMPTY,
-            Cell(4),
-            Cell(1),
-            Cell(-5),
-            Cell(9),
-            Cell(2),
-            Cell(-6),
-            Cell(5),
-            Cell(3),
-            EMPTY,
-            Cell(5),
-            Cell(-8),
-            Cell(9),
-            Cell(7),
-            Cell(9),
-            Cell(-9),
-            EMPTY,
-            Cell(12),
-            Cell(0),
-            Cell(-2),
-            EMPTY,
-            Cell(6),
-            Cell(-11),
-            Cell(8),
-            Cell(1),
-            EMPTY,
-            Cell(-4),
-            Cell(10),
-            Cell(2),
-            Cell(-13),
-            Cell(20),
-        ];
-        assert_eq!(rt; fold_lanes(&cells[..0]), record(0, 0, 0, 0));
-        assert_eq!(rt; fold_lanes(&cells[..1]), record(3, 3, 3, 1));
-        assert_eq!(rt; fold_lanes(&cells[..7]), record(-5, 9, 11, 6));
-        assert_eq!(rt; fold_lanes(&cells[..8]), record(-5, 9, 13, 7));
-        assert_eq!(rt; fold_lanes(&cells[..9]), record(-6, 9, 7, 8));
-        assert_eq!(rt; fold_lanes(&cells[..16]), record(-8, 9, 28, 14));
-        assert_eq!(rt; fold_lanes(&cells[..17]), record(-8, 9, 37, 15));
-        assert_eq!(rt; fold_lanes(&cells[..23]), record(-9, 12, 38, 19));
-        assert_eq!(rt; fold_lanes(&cells[..24]), record(-9, 12, 44, 20));
-        assert_eq!(rt; fold_lanes(&cells[..25]), record(-11, 12, 33, 21));
-        assert_eq!(rt; fold_lanes(&cells[..31]), record(-11, 12, 50, 26));
-        assert_eq!(rt; fold_lanes(&cells[..32]), record(-13, 12, 37, 27));
-        assert_eq!(rt; fold_lanes(&cells), record(-13, 20, 57, 28));
+        assert_eq!(rt; fold_lanes(&CELLS[..0]), record(0, 0, 0, 0));
+        assert_eq!(rt; fold_lanes(&CELLS[..1]), record(3, 3, 3, 1));
+        assert_eq!(rt; fold_lanes(&CELLS[..7]), record(-5, 9, 11, 6));
+        assert_eq!(rt; fold_lanes(&CELLS[..8]), record(-5, 9, 13, 7));
+        assert_eq!(rt; fold_lanes(&CELLS[..9]), record(-6, 9, 7, 8));
+        assert_eq!(rt; fold_lanes(&CELLS[..16]), record(-8, 9, 28, 14));
+        assert_eq!(rt; fold_lanes(&CELLS[..17]), record(-8, 9, 37, 15));
+        assert_eq!(rt; fold_lanes(&CELLS[..23]), record(-9, 12, 38, 19));
+        assert_eq!(rt; fold_lanes(&CELLS[..24]), record(-9, 12, 44, 20));
+        assert_eq!(rt; fold_lanes(&CELLS[..25]), record(-11, 12, 33, 21));
+        assert_eq!(rt; fold_lanes(&CELLS[..31]), record(-11, 12, 50, 26));
+        assert_eq!(rt; fold_lanes(&CELLS[..32]), record(-13, 12, 37, 27));
+        assert_eq!(rt; fold_lanes(&CELLS), record(-13, 20, 57, 28));
     }
 
     #[test]
@@ -328,6 +444,24 @@ mod tests {
             fold_lanes(&high),
             record(2147483647, 2147483647, 53687091175, 25)
         );
+    }
+
+    #[test]
+    fn folds_blocks_with_and_without_empty_cells(rt: HostRuntime) {
+        let mut cells = vec![in rt.alloc(); Cell(3); 9005].expect(&rt, "memory");
+        assert_eq!(rt; fold_lanes(&cells), record(3, 3, 27015, 9005));
+        cells[4095] = EMPTY;
+        assert_eq!(rt; fold_lanes(&cells), record(3, 3, 27012, 9004));
+        cells[4095] = Cell(-1);
+        cells[4096] = EMPTY;
+        assert_eq!(rt; fold_lanes(&cells), record(-1, 3, 27008, 9004));
+        cells[8192] = Cell(5);
+        cells[9004] = EMPTY;
+        assert_eq!(rt; fold_lanes(&cells), record(-1, 5, 27007, 9003));
+        for k in 0..4096 {
+            cells[k] = EMPTY;
+        }
+        assert_eq!(rt; fold_lanes(&cells), record(3, 5, 14723, 4907));
     }
 
     #[test]

@@ -1,29 +1,26 @@
-use Rattle.std.proofs.Common.{◌*◌, ◌/◌, ◌∙◌, ap, sym, take, drop, length, filter_map, arith}
-use Rattle.std.proofs.lemmas.Int.{ints}
-use Rattle.std.proofs.lemmas.List.{take-append-drop}
+use Rattle.std.proofs.Common.{◌+◌, ◌-◌, ◌≡◌, ◌++◌, ◌∙◌, ap, sym, take, drop, filter_map, length-take, length-drop, arith}
 use Rattle.std.proofs.lemmas.List.Elements.{filter_map-append}
+use Rattle.std.proofs.Math.Seq.{take-add}
 use Rattle.grid_cells.specs.Cells.{cell_value}
-use Rattle.grid_cells.specs.Lanes.{cells_of_eights}
 use Rattle.grid_cells.specs.Records.{record_of, merged}
-use Rattle.grid_cells.proofs.LaneRecords.{cells_of_eights-first_chunks}
+use Rattle.grid_cells.specs.declared.cell.Cell.{Cell}
 use Rattle.grid_cells.proofs.Records.{record_of-append}
 use Rattle.grid_cells.proofs.lanes.fold_lanes.Goals as goal
 
-pub returns-else-cells-lt24-clause-record : goal.returns-else-cells-lt24-clause-record
-returns-else-cells-lt24-clause-record c =
+pub loop-done-preserved : goal.loop-done-preserved
+loop-done-preserved c =
+    let before = c.loop-done.invariant in
     let cells = c.args.cells.now in
-    let k = length cells / 8 in
-    let front = c.eights_record.ensures.record ∙ ap (λ eights. record_of (filter_map cell_value (cells_of_eights eights))) c.as_chunks.ensures.front ∙ ap (λ l. record_of (filter_map cell_value l)) (cells_of_eights-first_chunks k cells) in
-    let back = c.fold-else-cells-lt24.ensures.record ∙ ap (λ l. record_of (filter_map cell_value l)) c.as_chunks.ensures.back in
-    c.merge.ensures.record ∙ (λ i. merged (front i) (back i)) ∙ sym (record_of-append (filter_map cell_value (take (k * 8) cells)) (filter_map cell_value (drop (k * 8) cells)))
-    ∙ ap record_of (sym (filter_map-append cell_value (take (k * 8) cells) (drop (k * 8) cells))) ∙ ap (λ l. record_of (filter_map cell_value l)) (take-append-drop (k * 8) cells)
-
-pub returns-else-cells-lt24-clause-within : goal.returns-else-cells-lt24-clause-within
-returns-else-cells-lt24-clause-within c =
-    let each = c.merge.ensures.each c.eights_record.ensures.each c.fold-else-cells-lt24.ensures.each in
-    let k = length c.args.cells.now / 8 in
-    let few = c.merge.ensures.count in
+    let done = c.loop-done.done in
+    let n = c.min-n.result in
+    let block = take (done + n - done) (drop done cells) in
+    let one = c.block_record-one.ensures in
+    let joined : take done cells ++ block ≡ take (done + n) cells = ap (λ m. take done cells ++ take m (drop done cells)) (omega arith) ∙ sym (take-add done n cells) in
     record {
-      low = omega (arith, ints, each.low, few, c.eights_record.ensures.few, c.fold-else-cells-lt24.ensures.few, c.as_chunks.ensures.front_len, c.as_chunks.ensures.back_len, c.requires);
-      high = omega (arith, ints, each.high, few, c.eights_record.ensures.few, c.fold-else-cells-lt24.ensures.few, c.as_chunks.ensures.front_len, c.as_chunks.ensures.back_len, c.requires);
+      inside = omega (arith, c.min-n.ensures, before.inside);
+      record_so_far =
+          c.merge-all.ensures.record ∙ (λ i. merged (before.record_so_far i) (one.record i)) ∙ sym (record_of-append (filter_map cell_value (take done cells)) (filter_map cell_value block))
+          ∙ ap record_of (sym (filter_map-append cell_value (take done cells) block)) ∙ ap (λ l. record_of (filter_map cell_value l)) joined;
+      few = omega (arith, c.merge-all.ensures.count, before.few, one.few, length-take {A = Cell}, length-drop {A = Cell});
+      each = c.merge-all.ensures.each before.each one.each;
     }

@@ -4,7 +4,7 @@ use Rattle.grid_cells.specs.Cells.{cell_value}
 use Rattle.grid_cells.specs.Lanes.{cells_of_eights}
 use Rattle.grid_cells.specs.Numbers.{sum_of, least_of, greatest_of}
 use Rattle.grid_cells.proofs.LaneRecords.{most-biased, lowest-biased, lowest-some, ones-biased, sum-biased, within-present, record_of-none, record_of-some}
-use Rattle.grid_cells.proofs.lanes.eights_record.Goals as goal
+use Rattle.grid_cells.proofs.lanes.mixed_record.Goals as goal
 
 pub overflow_add-lowest : goal.overflow_add-lowest
 overflow_add-lowest c =
