@@ -12,12 +12,12 @@ use crate::Cell;
 use crate::record::{NOTHING, Record, fold, merge};
 use std::simd::prelude::*;
 
-/// How many cells a block has. They have 16 KiB, which stay in the processor's nearest cache.
-const BLOCK: usize = 4096;
+/// How many cells a block has. They have 2 KiB, which stay in the processor's nearest cache.
+const BLOCK: usize = 512;
 
-/// The record of these cells, at most 2^26, as `fold` gives it, by eight lanes and block by block. A block behind
-/// one with no empty cell is first taken to have none either, which takes fewer steps, and is folded again by
-/// all steps where it has one. Source: own.
+/// The record of these cells, at most 2^26, as `fold` gives it, by eight lanes. As long as no cell was empty it goes
+/// block by block, and the next block is first taken to have no empty cell either, which takes fewer steps. The one
+/// that has one is folded again by all steps, and then the rest at once. Source: own.
 pub fn fold_lanes(cells: &[Cell]) -> Record
     requires { length cells.now ≤ 2 ^ 26 }
     ensures record { result ≡ record_of (filter_map cell_value cells.now) }
@@ -26,22 +26,22 @@ pub fn fold_lanes(cells: &[Cell]) -> Record
     ensures within { IsWithin result.sum (2 ^ 57) }
 {
     let mut all = NOTHING;
-    let mut full = true;
     let mut done = 0;
     while done < cells.len() {
-        let n = BLOCK.min(cells.len() - done);
-        let one = block_record(&cells[done..done + n], full);
-        full = one.count as usize == n;
+        let full = all.count as usize == done;
+        let rest = cells.len() - done;
+        let n = if full { BLOCK.min(rest) } else { rest };
+        let one = part_record(&cells[done..done + n], full && done > 0);
         all = merge(all, one);
         done += n;
     }
     all
 }
 
-/// The record of the cells of one block. Where `full` says so, it is tried first whether none of them is empty.
+/// The record of these cells, at most 2^26. Where `full` says so, it is tried first whether none of them is empty.
 /// Fewer than 24 cells, for which lanes are slower, are left to `fold`.
-fn block_record(cells: &[Cell], full: bool) -> Record
-    requires { length cells.now ≤ BLOCK }
+fn part_record(cells: &[Cell], full: bool) -> Record
+    requires { length cells.now ≤ 2 ^ 26 }
     ensures record { result ≡ record_of (filter_map cell_value cells.now) }
     ensures few { result.count ≤ length cells.now }
     ensures each { IsWithin result.sum (2 ^ 31 * result.count) }
@@ -448,20 +448,20 @@ mod tests {
 
     #[test]
     fn folds_blocks_with_and_without_empty_cells(rt: HostRuntime) {
-        let mut cells = vec![in rt.alloc(); Cell(3); 9005].expect(&rt, "memory");
-        assert_eq!(rt; fold_lanes(&cells), record(3, 3, 27015, 9005));
-        cells[4095] = EMPTY;
-        assert_eq!(rt; fold_lanes(&cells), record(3, 3, 27012, 9004));
-        cells[4095] = Cell(-1);
-        cells[4096] = EMPTY;
-        assert_eq!(rt; fold_lanes(&cells), record(-1, 3, 27008, 9004));
-        cells[8192] = Cell(5);
-        cells[9004] = EMPTY;
-        assert_eq!(rt; fold_lanes(&cells), record(-1, 5, 27007, 9003));
-        for k in 0..4096 {
+        let mut cells = vec![in rt.alloc(); Cell(3); 1200].expect(&rt, "memory");
+        assert_eq!(rt; fold_lanes(&cells), record(3, 3, 3600, 1200));
+        cells[511] = EMPTY;
+        assert_eq!(rt; fold_lanes(&cells), record(3, 3, 3597, 1199));
+        cells[511] = Cell(-1);
+        cells[512] = EMPTY;
+        assert_eq!(rt; fold_lanes(&cells), record(-1, 3, 3593, 1199));
+        cells[512] = Cell(5);
+        cells[1199] = EMPTY;
+        assert_eq!(rt; fold_lanes(&cells), record(-1, 5, 3595, 1199));
+        for k in 0..512 {
             cells[k] = EMPTY;
         }
-        assert_eq!(rt; fold_lanes(&cells), record(3, 5, 14723, 4907));
+        assert_eq!(rt; fold_lanes(&cells), record(3, 5, 2063, 687));
     }
 
     #[test]

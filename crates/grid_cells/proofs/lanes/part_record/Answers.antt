@@ -6,7 +6,7 @@ use Rattle.grid_cells.specs.Lanes.{cells_of_eights}
 use Rattle.grid_cells.specs.Records.{record_of, merged}
 use Rattle.grid_cells.proofs.LaneRecords.{cells_of_eights-first_chunks}
 use Rattle.grid_cells.proofs.Records.{record_of-append}
-use Rattle.grid_cells.proofs.lanes.block_record.Goals as goal
+use Rattle.grid_cells.proofs.lanes.part_record.Goals as goal
 
 pub returns-else-cells-lt24-clause-record : goal.returns-else-cells-lt24-clause-record
 returns-else-cells-lt24-clause-record c =
