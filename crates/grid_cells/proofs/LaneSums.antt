@@ -1,11 +1,10 @@
 -- Summaries of numbers, of two lists and by lanes.
-use Rattle.std.proofs.Common.{◌≡◌, ℕ, ◌+◌, ◌*◌, ◌^◌, ◌-◌, ◌≤◌, max, min, List, [], ◌∷◌, ◌++◌, length, map, refl, cond, ltb, w32, arith}
+use Rattle.std.proofs.Common.{◌≡◌, ℕ, ◌+◌, ◌*◌, ◌%◌, ◌^◌, ◌-◌, ◌≤◌, max, min, List, [], ◌∷◌, ◌++◌, length, map, refl, ap, ◌∙◌, cond, ltb, w32, arith}
 use borrow.Author.Tests.{ltb-true, ltb-false}
 use Rattle.std.proofs.lemmas.Bool.{cond_both}
-use Rattle.std.proofs.lemmas.Simd.{sum_bound, Each1-weaker}
-use lib.Lanes.{zip2, sel_l, sum_l, Each1}
+use lib.Lanes.{zip2, sel_l, sum_l, fold_l, Each1}
 use mir.Val.{Fits}
-use Rattle.grid_cells.specs.Lanes.{most, lowest}
+use Rattle.grid_cells.specs.Lanes.{upper_half, most, lowest}
 
 -- ---- the larger and the smaller lanes
 
@@ -61,7 +60,26 @@ pub sum_l-ones_le : (ns : List ℕ) → sum_l (map (λ n. min n 1) ns) ≤ lengt
 sum_l-ones_le [] = omega arith
 sum_l-ones_le (n ∷ ns) = omega (arith, sum_l-ones_le ns)
 
--- ---- how large the sums of lanes are
+pub sum_l-wrapping : (a b : List ℕ) → length a ≡ length b → sum_l (zip2 (λ x y. (x + y) % 2 ^ 32) a b) % 2 ^ 32 ≡ (sum_l a + sum_l b) % 2 ^ 32
+sum_l-wrapping [] [] e = refl
+sum_l-wrapping [] (y ∷ b) e = absurd (omega arith)
+sum_l-wrapping (x ∷ a) [] e = absurd (omega arith)
+sum_l-wrapping (x ∷ a) (y ∷ b) e = omega (arith, sum_l-wrapping a b (omega arith))
 
-pub sum_l-of_32_bits : (ns : List ℕ) → Each1 (Fits w32) ns → sum_l ns ≤ 2 ^ 32 * length ns
-sum_l-of_32_bits ns fit = sum_bound (2 ^ 32) ns (Each1-weaker (Fits w32) (λ n. n ≤ 2 ^ 32) (λ n fits. omega (arith, fits.fits)) ns fit)
+pub fold-wrapping : (z : ℕ) (a : List ℕ) → fold_l (λ x y. (x + y) % 2 ^ 32) (z % 2 ^ 32) a ≡ (z + sum_l a) % 2 ^ 32
+fold-wrapping z [] = omega arith
+fold-wrapping z (x ∷ a) = ap (λ y. fold_l (λ x y. (x + y) % 2 ^ 32) y a) (omega arith) ∙ fold-wrapping (z + x) a ∙ omega arith
+
+-- ---- upper halves
+
+pub upper_half_le : (ns : List ℕ) → Each1 (Fits w32) ns → sum_l (map upper_half ns) ≤ (2 ^ 16 - 1) * length ns
+upper_half_le [] fit = omega arith
+upper_half_le (n ∷ ns) fit = omega (arith, fit.0.fits, upper_half_le ns fit.1)
+
+pub halves_below : (ns : List ℕ) → 2 ^ 16 * sum_l (map upper_half ns) ≤ sum_l ns
+halves_below [] = omega arith
+halves_below (n ∷ ns) = omega (arith, halves_below ns)
+
+pub halves_above : (ns : List ℕ) → sum_l ns ≤ 2 ^ 16 * sum_l (map upper_half ns) + (2 ^ 16 - 1) * length ns
+halves_above [] = omega arith
+halves_above (n ∷ ns) = omega (arith, halves_above ns)

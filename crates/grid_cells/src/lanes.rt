@@ -1,10 +1,10 @@
 //! The record of many cells, eight at a time, in lanes.
-ghost use Rattle.std.specs.Prelude.{◌≡◌, ◌≤◌, ◌<◌, ◌+◌, ◌*◌, ◌^◌, ◌+ℤ◌, pos, List, [], ℕ, ◌++◌, max, min, length, map, filter_map, FitsSigned, IfSome, IfNone};
+ghost use Rattle.std.specs.Prelude.{◌≡◌, ◌≤◌, ◌<◌, ◌+◌, ◌-◌, ◌*◌, ◌%◌, ◌^◌, ◌+ℤ◌, pos, List, [], ℕ, ◌++◌, max, min, length, map, filter_map, FitsSigned, IfSome, IfNone};
 ghost use Rattle.std.specs.Int.{w32};
 ghost use Rattle.std.specs.Simd.Lanes.{zip2, sum_l, Each1};
 ghost use Rattle.grid_cells.specs.Cells.{cell_value};
-ghost use Rattle.grid_cells.specs.Lanes.{biased, cells_of_eights, lowered, most, lowest, SumsUp, SumsUpFull};
-ghost use Rattle.grid_cells.specs.declared.lanes.TheConstants.{BLOCK};
+ghost use Rattle.grid_cells.specs.Lanes.{biased, cells_of_eights, lowered, upper_half, most, lowest, AddsUp, SumsUp, SumsUpFull};
+ghost use Rattle.grid_cells.specs.declared.lanes.TheConstants.{MOST};
 ghost use Rattle.grid_cells.specs.Numbers.{IsWithin};
 ghost use Rattle.grid_cells.specs.Records.{record_of};
 
@@ -15,9 +15,12 @@ use std::simd::prelude::*;
 /// How many cells a block has. They have 2 KiB, which stay in the processor's nearest cache.
 const BLOCK: usize = 512;
 
+/// How many cells go at once behind the first empty one, at most: as many as a `LaneSum` sums up.
+const MOST: usize = 65536;
+
 /// The record of these cells, at most 2^26, as `fold` gives it, by eight lanes. As long as no cell was empty it goes
 /// block by block, and the next block is first taken to have no empty cell either, which takes fewer steps. The one
-/// that has one is folded again by all steps, and then the rest at once. Source: own.
+/// that has one is folded again by all steps, and then the rest. Source: own.
 pub fn fold_lanes(cells: &[Cell]) -> Record
     requires { length cells.now ≤ 2 ^ 26 }
     ensures record { result ≡ record_of (filter_map cell_value cells.now) }
@@ -29,8 +32,8 @@ pub fn fold_lanes(cells: &[Cell]) -> Record
     let mut done = 0;
     while done < cells.len() {
         let full = all.count as usize == done;
-        let rest = cells.len() - done;
-        let n = if full { BLOCK.min(rest) } else { rest };
+        let most = if full { BLOCK } else { MOST };
+        let n = most.min(cells.len() - done);
         let one = part_record(&cells[done..done + n], full && done > 0);
         all = merge(all, one);
         done += n;
@@ -38,10 +41,10 @@ pub fn fold_lanes(cells: &[Cell]) -> Record
     all
 }
 
-/// The record of these cells, at most 2^26. Where `full` says so, it is tried first whether none of them is empty.
-/// Fewer than 24 cells, for which lanes are slower, are left to `fold`.
+/// The record of these cells. Where `full` says so, it is tried first whether none of them is empty. Fewer than 24
+/// cells, for which lanes are slower, are left to `fold`.
 fn part_record(cells: &[Cell], full: bool) -> Record
-    requires { length cells.now ≤ 2 ^ 26 }
+    requires { length cells.now ≤ MOST }
     ensures record { result ≡ record_of (filter_map cell_value cells.now) }
     ensures few { result.count ≤ length cells.now }
     ensures each { IsWithin result.sum (2 ^ 31 * result.count) }
@@ -54,14 +57,58 @@ fn part_record(cells: &[Cell], full: bool) -> Record
     }
 }
 
-/// What eight lanes each sum up of biased cells: the least of those lowered by one, the greatest, how many
-/// are not 0, and the sum.
+/// The sum of numbers of 32 bits, at most 2^16 of them, by eight lanes: its lower 32 bits, and the sum of the numbers'
+/// upper halves. 2^16 times that is less than 2^32 below the whole sum, and so says the rest.
+#[derive(Clone, Copy)]
+struct LaneSum {
+    low: u32x8,
+    halves: u32x8,
+}
+
+impl LaneSum {
+    /// The sum of no numbers.
+    fn new() -> LaneSum
+        ensures value { AddsUp result [] }
+        ensures halves { sum_l result.halves ≡ 0 }
+    {
+        LaneSum {
+            low: u32x8::splat(0),
+            halves: u32x8::splat(0),
+        }
+    }
+
+    /// The sum with eight numbers more.
+    fn with(self, eight: u32x8) -> LaneSum
+        requires { sum_l self.halves + 8 * (2 ^ 16 - 1) < 2 ^ 32 }
+        ensures value { (ns : List ℕ) → AddsUp self ns → AddsUp result (ns ++ eight) }
+        ensures halves { sum_l result.halves ≤ sum_l self.halves + 8 * (2 ^ 16 - 1) }
+    {
+        LaneSum {
+            low: added_wrapping(self.low, eight),
+            halves: added(self.halves, upper_half(eight)),
+        }
+    }
+
+    /// The whole sum.
+    fn total(self) -> u64
+        requires { sum_l self.halves < 2 ^ 32 }
+        ensures value { (ns : List ℕ) → AddsUp self ns → length ns ≤ 2 ^ 16 → result ≡ sum_l ns }
+        ensures within { result < 2 ^ 49 }
+    {
+        let halves = total(self.halves);
+        halves as u64 * 65536
+            + total_wrapping(self.low).wrapping_sub(halves.wrapping_mul(65536)) as u64
+    }
+}
+
+/// What eight lanes each sum up of biased cells: the least of those lowered by one, the greatest, how many are
+/// not 0, and the sum.
 #[derive(Clone, Copy)]
 struct Lanes {
     least: u32x8,
     greatest: u32x8,
     count: u32x8,
-    sum: u64x8,
+    sum: LaneSum,
 }
 
 impl Lanes {
@@ -69,38 +116,38 @@ impl Lanes {
     fn new() -> Lanes
         ensures value { SumsUp result [] }
         ensures count { sum_l result.count ≡ 0 }
-        ensures sum { sum_l result.sum ≡ 0 }
+        ensures halves { sum_l result.sum.halves ≡ 0 }
     {
         Lanes {
             least: u32x8::splat(u32::MAX),
             greatest: u32x8::splat(0),
             count: u32x8::splat(0),
-            sum: u64x8::splat(0),
+            sum: LaneSum::new(),
         }
     }
 
     /// The lanes of eight biased cells more.
     fn with(self, eight: u32x8) -> Lanes
         requires count { sum_l self.count + 8 < 2 ^ 32 }
-        requires sum { sum_l self.sum + 2 ^ 35 < 2 ^ 64 }
+        requires halves { sum_l self.sum.halves + 8 * (2 ^ 16 - 1) < 2 ^ 32 }
         ensures value { (ns : List ℕ) → SumsUp self ns → SumsUp result (ns ++ eight) }
         ensures count { sum_l result.count ≤ sum_l self.count + 8 }
-        ensures sum { sum_l result.sum ≤ sum_l self.sum + 2 ^ 35 }
+        ensures halves { sum_l result.sum.halves ≤ sum_l self.sum.halves + 8 * (2 ^ 16 - 1) }
     {
         Lanes {
             least: smaller(self.least, lowered(eight)),
             greatest: larger(self.greatest, eight),
             count: added(self.count, smaller(eight, u32x8::splat(1))),
-            sum: added_wide(self.sum, eight),
+            sum: self.sum.with(eight),
         }
     }
 }
 
-/// The record of the cells of these eights, at most 2^23. Where `full` says so, it is tried first whether none
+/// The record of the cells of these eights, at most 2^13. Where `full` says so, it is tried first whether none
 /// of them is empty.
 fn eights_record(eights: &[[Cell; 8]], full: bool) -> Record
     requires some { 0 < length eights.now }
-    requires few { length eights.now ≤ 2 ^ 23 }
+    requires few { length eights.now ≤ 2 ^ 13 }
     ensures record { result ≡ record_of (filter_map cell_value (cells_of_eights eights.now)) }
     ensures few { result.count ≤ 8 * length eights.now }
     ensures each { IsWithin result.sum (2 ^ 31 * result.count) }
@@ -112,10 +159,10 @@ fn eights_record(eights: &[[Cell; 8]], full: bool) -> Record
     }
 }
 
-/// The record of the cells of these eights, at most 2^23, or `None` exactly where one of them is empty.
+/// The record of the cells of these eights, at most 2^13, or `None` exactly where one of them is empty.
 fn full_record(eights: &[[Cell; 8]]) -> Option<Record>
     requires some { 0 < length eights.now }
-    requires few { length eights.now ≤ 2 ^ 23 }
+    requires few { length eights.now ≤ 2 ^ 13 }
     ensures record { IfSome result (λ r. r ≡ record_of (filter_map cell_value (cells_of_eights eights.now))) }
     ensures count { IfSome result (λ r. r.count ≡ 8 * length eights.now) }
     ensures each { IfSome result (λ r. IsWithin r.sum (2 ^ 31 * r.count)) }
@@ -130,14 +177,14 @@ fn full_record(eights: &[[Cell; 8]]) -> Option<Record>
     Some(Record {
         least: number(least),
         greatest: number(most(&all.greatest.to_array())),
-        sum: unbiased_sum(total_wide(all.sum), count),
+        sum: unbiased_sum(all.sum.total(), count),
         count,
     })
 }
 
-/// The record of the cells of these eights, at most 2^23.
+/// The record of the cells of these eights, at most 2^13.
 fn mixed_record(eights: &[[Cell; 8]]) -> Record
-    requires { length eights.now ≤ 2 ^ 23 }
+    requires { length eights.now ≤ 2 ^ 13 }
     ensures record { result ≡ record_of (filter_map cell_value (cells_of_eights eights.now)) }
     ensures few { result.count ≤ 8 * length eights.now }
     ensures each { IsWithin result.sum (2 ^ 31 * result.count) }
@@ -150,7 +197,7 @@ fn mixed_record(eights: &[[Cell; 8]]) -> Record
         Record {
             least: number(lowest(&all.least.to_array()) + 1),
             greatest: number(most(&all.greatest.to_array())),
-            sum: unbiased_sum(total_wide(all.sum), count),
+            sum: unbiased_sum(all.sum.total(), count),
             count,
         }
     }
@@ -161,42 +208,42 @@ fn mixed_record(eights: &[[Cell; 8]]) -> Record
 struct FullLanes {
     least: u32x8,
     greatest: u32x8,
-    sum: u64x8,
+    sum: LaneSum,
 }
 
 impl FullLanes {
     /// The lanes of no cells.
     fn new() -> FullLanes
         ensures value { SumsUpFull result [] }
-        ensures sum { sum_l result.sum ≡ 0 }
+        ensures halves { sum_l result.sum.halves ≡ 0 }
     {
         FullLanes {
             least: u32x8::splat(u32::MAX),
             greatest: u32x8::splat(0),
-            sum: u64x8::splat(0),
+            sum: LaneSum::new(),
         }
     }
 
     /// The lanes of eight biased cells more.
     fn with(self, eight: u32x8) -> FullLanes
-        requires { sum_l self.sum + 2 ^ 35 < 2 ^ 64 }
+        requires { sum_l self.sum.halves + 8 * (2 ^ 16 - 1) < 2 ^ 32 }
         ensures value { (ns : List ℕ) → SumsUpFull self ns → SumsUpFull result (ns ++ eight) }
-        ensures sum { sum_l result.sum ≤ sum_l self.sum + 2 ^ 35 }
+        ensures halves { sum_l result.sum.halves ≤ sum_l self.sum.halves + 8 * (2 ^ 16 - 1) }
     {
         FullLanes {
             least: smaller(self.least, eight),
             greatest: larger(self.greatest, eight),
-            sum: added_wide(self.sum, eight),
+            sum: self.sum.with(eight),
         }
     }
 }
 
-/// The lanes of the cells of these eights, at most 2^23, each taken for a present one.
+/// The lanes of the cells of these eights, at most 2^13, each taken for a present one.
 fn full_lanes(eights: &[[Cell; 8]]) -> FullLanes
-    requires { length eights.now ≤ 2 ^ 23 }
+    requires { length eights.now ≤ 2 ^ 13 }
     ensures value { SumsUpFull result (map biased (cells_of_eights eights.now)) }
     ensures fits { Each1 (λ c. FitsSigned w32 c.0) (cells_of_eights eights.now) }
-    ensures sum { sum_l result.sum ≤ 2 ^ 35 * length eights.now }
+    ensures halves { sum_l result.sum.halves ≤ 8 * (2 ^ 16 - 1) * length eights.now }
 {
     let mut all = FullLanes::new();
     for eight in eights {
@@ -205,13 +252,13 @@ fn full_lanes(eights: &[[Cell; 8]]) -> FullLanes
     all
 }
 
-/// The lanes of the cells of these eights, at most 2^23.
+/// The lanes of the cells of these eights, at most 2^13.
 fn eights_lanes(eights: &[[Cell; 8]]) -> Lanes
-    requires { length eights.now ≤ 2 ^ 23 }
+    requires { length eights.now ≤ 2 ^ 13 }
     ensures value { SumsUp result (map biased (cells_of_eights eights.now)) }
     ensures fits { Each1 (λ c. FitsSigned w32 c.0) (cells_of_eights eights.now) }
     ensures count { sum_l result.count ≤ 8 * length eights.now }
-    ensures sum { sum_l result.sum ≤ 2 ^ 35 * length eights.now }
+    ensures halves { sum_l result.sum.halves ≤ 8 * (2 ^ 16 - 1) * length eights.now }
 {
     let mut all = Lanes::new();
     for eight in eights {
@@ -283,25 +330,30 @@ fn added(a: u32x8, b: u32x8) -> u32x8
     a.strict_add(b)
 }
 
-/// The sum in each lane.
-fn added_wide(a: u64x8, b: u32x8) -> u64x8
-    requires { sum_l a + sum_l b < 2 ^ 64 }
-    ensures { sum_l result ≡ sum_l a + sum_l b }
+/// The sum in each lane without what is above 32 bits.
+fn added_wrapping(a: u32x8, b: u32x8) -> u32x8
+    ensures { sum_l result % 2 ^ 32 ≡ (sum_l a + sum_l b) % 2 ^ 32 }
 {
-    a.strict_add(b.cast::<u64>())
+    a + b
+}
+
+/// The upper half of the bits in each lane, as a number.
+fn upper_half(a: u32x8) -> u32x8
+    ensures { result ≡ map upper_half a }
+{
+    a >> u32x8::splat(16)
+}
+
+/// The sum of all lanes without what is above 32 bits.
+fn total_wrapping(a: u32x8) -> u32
+    ensures { result ≡ sum_l a % 2 ^ 32 }
+{
+    a.reduce_sum()
 }
 
 /// The sum of all lanes.
 fn total(a: u32x8) -> u32
     requires { sum_l a < 2 ^ 32 }
-    ensures { result ≡ sum_l a }
-{
-    a.strict_reduce_sum()
-}
-
-/// The sum of all lanes.
-fn total_wide(a: u64x8) -> u64
-    requires { sum_l a < 2 ^ 64 }
     ensures { result ≡ sum_l a }
 {
     a.strict_reduce_sum()

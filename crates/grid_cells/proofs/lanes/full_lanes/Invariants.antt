@@ -1,4 +1,4 @@
-use Rattle.std.proofs.Common.{◌≤◌, ◌*◌, ◌^◌, map, take, FitsSigned, w32}
+use Rattle.std.proofs.Common.{◌≤◌, ◌*◌, ◌-◌, ◌^◌, map, take, FitsSigned, w32}
 use lib.Lanes.{sum_l, Each1}
 use Rattle.grid_cells.specs.Lanes.{biased, cells_of_eights, SumsUpFull}
 use Rattle.grid_cells.proofs.lanes.full_lanes.Given as goal
@@ -7,5 +7,5 @@ abbrev pub invariant-loop-eight : goal.invariant-loop-eight
 invariant-loop-eight l = record {
   value : SumsUpFull l.all (map biased (cells_of_eights (take l.eight-index l.eights)));
   fits : Each1 (λ c. FitsSigned w32 c.0) (cells_of_eights (take l.eight-index l.eights));
-  sum : sum_l l.all.sum ≤ 2 ^ 35 * l.eight-index;
+  halves : sum_l l.all.sum.halves ≤ 8 * (2 ^ 16 - 1) * l.eight-index;
 }

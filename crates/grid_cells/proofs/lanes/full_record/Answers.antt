@@ -1,9 +1,10 @@
 use Rattle.std.proofs.Common.{rules, ◌≡◌, ◌∙◌, ◌*◌, ◌+◌, pos, negsuc, sym, map, filter_map, length, unwrap_or, to_z, of_z, SFits, w32, w64, arith}
+use Rattle.std.proofs.lemmas.List.{length-map}
 use Rattle.std.proofs.lemmas.Int.{ints, to_z-of_z}
 use Rattle.grid_cells.specs.Cells.{cell_value}
 use Rattle.grid_cells.specs.Lanes.{biased, cells_of_eights, lowered, lowest}
 use Rattle.grid_cells.specs.Numbers.{sum_of, least_of, greatest_of}
-use Rattle.grid_cells.proofs.LaneRecords.{most-biased, lowest-biased, sum-biased, all-present, lowest-present, cells_of_eights-long, record_of-some}
+use Rattle.grid_cells.proofs.LaneRecords.{most-biased, lowest-biased, sum-biased, all-present, lowest-present, cells_of_eights-long, within-present, record_of-some}
 use Rattle.grid_cells.proofs.lanes.full_record.Goals as goal
 
 pub returns-clause-record : goal.returns-clause-record
@@ -19,7 +20,7 @@ returns-clause-record c =
     let greatest_fits : SFits w32 c.number-2.result = search rules in
     let sum_fits : SFits w64 c.unbiased_sum.result = search rules in
     let high = c.most.ensures ∙ all.value.greatest in
-    let total = c.total_wide.ensures ∙ all.value.sum in
+    let total = c.total.ensures.value (map biased cells) all.value.sum (omega (arith, length-map cells biased, long, c.requires.few)) in
     let is_lowered : lowest (map lowered (map biased cells)) + 1 ≡ lowest (map biased cells) = lowest-present cells all.fits (omega (arith, long, c.requires.some)) some in
     let least : c.number.result ≡ unwrap_or (least_of present) (pos 2147483648) = omega (arith, ints, c.number.ensures, low, is_lowered, lowest-biased cells all.fits) in
     let greatest : c.number-2.result ≡ unwrap_or (greatest_of present) (negsuc 2147483647) = omega (arith, ints, c.number-2.ensures, high, most-biased cells all.fits) in
@@ -27,3 +28,19 @@ returns-clause-record c =
     record_of-some present (to_z w32 (of_z w32 c.number.result)) (to_z w32 (of_z w32 c.number-2.result)) (to_z w64 (of_z w64 c.unbiased_sum.result)) (8 * length c.args.eights.now)
     (λ e. omega (arith, e, c.requires.some)) count
     (to_z-of_z w32 c.number.result least_fits ∙ least) (to_z-of_z w32 c.number-2.result greatest_fits ∙ greatest) (to_z-of_z w64 c.unbiased_sum.result sum_fits ∙ sum)
+
+pub returns-clause-each : goal.returns-clause-each
+returns-clause-each c =
+    let cells = cells_of_eights c.args.eights.now in
+    let present = filter_map cell_value cells in
+    let all = c.full_lanes-all.ensures in
+    let low : c.lowest-least.result ≡ lowest (map biased cells) = c.lowest-least.ensures ∙ all.value.least in
+    let some : lowest (map biased cells) ≡ 0 → ⊥ = λ e. c.if-least-eq0.false (low ∙ e) in
+    let long = cells_of_eights-long c.args.eights.now c.told-eights in
+    let count : 8 * length c.args.eights.now ≡ length present = sym long ∙ sym (all-present cells all.fits some) in
+    let sum_fits : SFits w64 c.unbiased_sum.result = search rules in
+    let total = c.total.ensures.value (map biased cells) all.value.sum (omega (arith, length-map cells biased, long, c.requires.few)) in
+    let sum : c.unbiased_sum.result ≡ sum_of present = omega (arith, ints, c.unbiased_sum.ensures, total, count, sum-biased cells all.fits) in
+    let is = to_z-of_z w64 c.unbiased_sum.result sum_fits ∙ sum in
+    let within = within-present cells all.fits in
+    record { low = omega (arith, ints, within.low, is, count); high = omega (arith, ints, within.high, is, count) }

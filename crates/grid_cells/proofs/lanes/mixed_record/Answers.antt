@@ -1,9 +1,10 @@
-use Rattle.std.proofs.Common.{rules, ◌≡◌, ◌∙◌, pos, negsuc, sym, filter_map, length, unwrap_or, to_z, of_z, SFits, w32, w64, arith}
+use Rattle.std.proofs.Common.{rules, ◌≡◌, ◌∙◌, pos, negsuc, sym, map, filter_map, length, unwrap_or, to_z, of_z, SFits, w32, w64, arith}
+use Rattle.std.proofs.lemmas.List.{length-map}
 use Rattle.std.proofs.lemmas.Int.{ints, to_z-of_z}
 use Rattle.grid_cells.specs.Cells.{cell_value}
-use Rattle.grid_cells.specs.Lanes.{cells_of_eights}
+use Rattle.grid_cells.specs.Lanes.{biased, cells_of_eights}
 use Rattle.grid_cells.specs.Numbers.{sum_of, least_of, greatest_of}
-use Rattle.grid_cells.proofs.LaneRecords.{most-biased, lowest-biased, lowest-some, ones-biased, sum-biased, within-present, record_of-none, record_of-some}
+use Rattle.grid_cells.proofs.LaneRecords.{cells_of_eights-long, most-biased, lowest-biased, lowest-some, ones-biased, sum-biased, within-present, record_of-none, record_of-some}
 use Rattle.grid_cells.proofs.lanes.mixed_record.Goals as goal
 
 pub overflow_add-lowest : goal.overflow_add-lowest
@@ -33,7 +34,7 @@ returns-else-count-eq0-clause-record c =
     let sum_fits : SFits w64 c.unbiased_sum.result = search rules in
     let low = c.lowest.ensures ∙ all.value.least in
     let high = c.most.ensures ∙ all.value.greatest in
-    let total = c.total_wide.ensures ∙ all.value.sum in
+    let total = c.total.ensures.value (map biased cells) all.value.sum (omega (arith, length-map cells biased, cells_of_eights-long c.args.eights.now c.told-eights, c.requires)) in
     let least : c.number.result ≡ unwrap_or (least_of present) (pos 2147483648) = omega (arith, ints, c.number.ensures, low, lowest-biased cells all.fits) in
     let greatest : c.number-else-count-eq0.result ≡ unwrap_or (greatest_of present) (negsuc 2147483647) = omega (arith, ints, c.number-else-count-eq0.ensures, high, most-biased cells all.fits) in
     let sum : c.unbiased_sum.result ≡ sum_of present = omega (arith, ints, c.unbiased_sum.ensures, total, count, sum-biased cells all.fits) in
@@ -47,7 +48,7 @@ returns-else-count-eq0-clause-each c =
     let all = c.eights_lanes-all.ensures in
     let count : c.total-count.result ≡ length present = c.total-count.ensures ∙ all.value.count ∙ ones-biased cells all.fits in
     let sum_fits : SFits w64 c.unbiased_sum.result = search rules in
-    let total = c.total_wide.ensures ∙ all.value.sum in
+    let total = c.total.ensures.value (map biased cells) all.value.sum (omega (arith, length-map cells biased, cells_of_eights-long c.args.eights.now c.told-eights, c.requires)) in
     let sum : c.unbiased_sum.result ≡ sum_of present = omega (arith, ints, c.unbiased_sum.ensures, total, count, sum-biased cells all.fits) in
     let is = to_z-of_z w64 c.unbiased_sum.result sum_fits ∙ sum in
     let within = within-present cells all.fits in

@@ -3,16 +3,13 @@ use Rattle.std.proofs.lemmas.List.{map-append}
 use Rattle.std.proofs.lemmas.Simd.{zip2_splat}
 use lib.Lanes.{sum_l}
 use Rattle.grid_cells.specs.Lanes.{lowered, lowest}
-use Rattle.grid_cells.proofs.LaneSums.{lowest-append, most-append, sum_l-append, sum_l-ones_le, sum_l-of_32_bits}
+use Rattle.grid_cells.proofs.LaneSums.{lowest-append, most-append, sum_l-append, sum_l-ones_le}
 use Rattle.grid_cells.proofs.lanes.Lanes.with.Goals as goal
 
 pub added-requires : goal.added-requires
 added-requires c =
     let ones = ap sum_l (c.smaller-2.ensures.lanes ∙ zip2_splat min c.args.eight 8 1 c.fits-eight.0) in
     omega (arith, c.requires.count, sum_l-ones_le c.args.eight, c.fits-eight.0)
-
-pub added_wide-requires : goal.added_wide-requires
-added_wide-requires c = omega (arith, c.requires.sum, c.fits-eight.0, sum_l-of_32_bits c.args.eight c.fits-eight.1)
 
 pub returns-clause-value : goal.returns-clause-value
 returns-clause-value c ns now =
@@ -26,13 +23,10 @@ returns-clause-value c ns now =
       count =
           c.added.ensures ∙ (λ i. now.count i + ones i) ∙ sym (sum_l-append (map (λ n. min n 1) ns) (map (λ n. min n 1) eight))
           ∙ ap sum_l (sym (map-append (λ n. min n 1) ns eight));
-      sum = omega (arith, c.added_wide.ensures, now.sum, sum_l-append ns eight);
+      sum = c.with.ensures.value ns now.sum;
     }
 
 pub returns-clause-count : goal.returns-clause-count
 returns-clause-count c =
     let ones = ap sum_l (c.smaller-2.ensures.lanes ∙ zip2_splat min c.args.eight 8 1 c.fits-eight.0) in
     omega (arith, c.added.ensures, sum_l-ones_le c.args.eight, c.fits-eight.0)
-
-pub returns-clause-sum : goal.returns-clause-sum
-returns-clause-sum c = omega (arith, c.added_wide.ensures, c.fits-eight.0, sum_l-of_32_bits c.args.eight c.fits-eight.1)
