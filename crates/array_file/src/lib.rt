@@ -10,8 +10,6 @@
 pub mod header;
 pub mod laws;
 pub mod places;
-#[cfg(test)]
-mod tests;
 pub mod writing;
 
 pub use crate::header::{HeaderFault, read_header, read_layout, write_layout};

@@ -12,8 +12,6 @@ mod fault;
 pub mod laws;
 mod layout;
 mod read;
-#[cfg(test)]
-mod tests;
 mod text;
 mod word;
 

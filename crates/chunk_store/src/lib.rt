@@ -11,8 +11,6 @@ pub mod frame;
 pub mod laws;
 pub mod loading;
 pub mod summary;
-#[cfg(test)]
-mod tests;
 
 pub use crate::array::{CellsFault, read_cells};
 pub use crate::frame::Frame;

@@ -11,8 +11,6 @@ mod fault;
 pub mod laws;
 mod read;
 mod rows;
-#[cfg(test)]
-mod tests;
 
 pub use crate::command::Command;
 pub use crate::fault::WordsFault;

@@ -18,6 +18,3 @@ pub use crate::dom::Dom;
 pub use crate::point::Point;
 pub use crate::var_box::VarBox;
 pub use crate::walk::Points;
-
-#[cfg(test)]
-mod tests;

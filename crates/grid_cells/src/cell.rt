@@ -25,21 +25,3 @@ impl Cell {
         }
     }
 }
-
-#[cfg(test)]
-mod tests {
-    use super::*;
-
-    #[test]
-    fn only_the_least_number_is_empty(rt: HostRuntime) {
-        let empty = Cell(-2147483648);
-        assert!(rt; empty.is_empty());
-        assert_eq!(rt; empty.value(), None);
-        let least = Cell(-2147483647);
-        assert!(rt; !least.is_empty());
-        assert_eq!(rt; least.value(), Some(-2147483647));
-        let zero = Cell(0);
-        assert!(rt; !zero.is_empty());
-        assert_eq!(rt; zero.value(), Some(0));
-    }
-}

@@ -25,8 +25,6 @@ pub mod shape;
 pub mod side;
 mod stated;
 pub mod taking;
-#[cfg(test)]
-mod tests;
 mod tiles;
 
 pub use crate::cell::Cell;

@@ -25,18 +25,3 @@ impl Shape {
         (u64::from(c) * u64::from(n_2) + u64::from(c_2)) * u64::from(n_3) + u64::from(c_3)
     }
 }
-
-#[cfg(test)]
-mod tests {
-    use super::*;
-
-    #[test]
-    fn numbers_places_with_the_last_dimension_fastest(rt: HostRuntime) {
-        let shape = Shape { extents: [2, 3, 4] };
-        assert_eq!(rt; shape.index_of([0, 0, 0]), 0);
-        assert_eq!(rt; shape.index_of([0, 0, 1]), 1);
-        assert_eq!(rt; shape.index_of([0, 1, 0]), 4);
-        assert_eq!(rt; shape.index_of([1, 0, 0]), 12);
-        assert_eq!(rt; shape.index_of([1, 2, 3]), 23);
-    }
-}

@@ -84,38 +84,3 @@ fn piece(extent: u32, length: u32, q: u32) -> [u32; 2]
     let from = q * length;
     [from, from + length.min(extent - from)]
 }
-
-#[cfg(test)]
-mod tests {
-    use super::*;
-
-    #[test]
-    fn four_chunks_cover_three_rows_of_four_cells(rt: HostRuntime) {
-        let extents = [3, 4, 1];
-        let chunk = [2, 2, 1];
-        assert_eq!(rt; grid_of(&extents, &chunk), [2, 2, 1]);
-        let corner = Rect {
-            from: [2, 0, 0],
-            to: [3, 2, 1],
-        };
-        assert_eq!(rt; tile_rect(&extents, &chunk, 2), corner);
-        assert_eq!(rt; tile_of(&extents, &chunk, [2, 1, 0]), 2);
-        assert_eq!(rt; place_in_tile(&chunk, [2, 1, 0]), 1);
-        assert_eq!(rt; tile_of(&extents, &chunk, [2, 3, 0]), 3);
-        assert_eq!(rt; place_in_tile(&chunk, [2, 3, 0]), 1);
-        assert_eq!(rt; tile_of(&extents, &chunk, [1, 2, 0]), 1);
-        assert_eq!(rt; place_in_tile(&chunk, [1, 2, 0]), 2);
-    }
-
-    #[test]
-    fn the_last_tile_of_a_line_is_cut(rt: HostRuntime) {
-        let extents = [5, 1, 1];
-        let lengths = [2, 1, 1];
-        assert_eq!(rt; grid_of(&extents, &lengths), [3, 1, 1]);
-        let last = Rect {
-            from: [4, 0, 0],
-            to: [5, 1, 1],
-        };
-        assert_eq!(rt; tile_rect(&extents, &lengths, 2), last);
-    }
-}

@@ -10,9 +10,6 @@ use grid_cells::{Cell, Shape};
 use query_model::Query;
 use std::alloc::{AllocError, Global};
 
-#[cfg(test)]
-mod tests;
-
 /// The solutions of a query on an array of the query's rank, with this shape and these cells in row-major
 /// order, in lexicographic order. Its only error is want of memory. Source: own.
 pub fn list_plain(

@@ -1,9 +1,16 @@
 -- Names made of bytes.
-use Rattle.std.proofs.Common.{◌≡◌, ℕ, ◌-◌, ◌≤◌, true, nat_le, List, length, replicate, slice_index, ap, ◌∙◌}
+use Rattle.std.proofs.Common.{◌≡◌, ℕ, ◌-◌, ◌≤◌, Bool, true, false, ◌&&◌, nat_le, List, length, replicate, slice_index, refl, ap, ◌∙◌, arith}
 use Rattle.std.specs.List.{list_all}
 use Rattle.std.proofs.Math.Seq.{take-append_seam, drop-append_seam}
+use Rattle.std.proofs.lemmas.Bool.{false≢true}
 use Rattle.query_model.specs.NameForm.{IsName, is_name, begins_name, continues_name, name_of}
-use Rattle.query_model.proofs.Deciding.{both, at_most}
+
+both : (a b : Bool) → a && b ≡ true → (a ≡ true) × (b ≡ true)
+both true b h = (refl, h)
+both false b h = absurd (false≢true h)
+
+at_most : (m n : ℕ) → nat_le m n ≡ true → m ≤ n
+at_most m n h = grind (arith, h)
 
 pub is_name_short : (text : List ℕ) → is_name text ≡ true → length text ≤ 32
 is_name_short text h =

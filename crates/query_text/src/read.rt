@@ -124,6 +124,3 @@ pub fn read_query(alloc: Global, bytes: &[u8], rank: u8) -> Result<Query, QueryF
         }))
     }
 }
-
-#[cfg(test)]
-mod tests;

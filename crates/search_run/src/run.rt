@@ -178,6 +178,3 @@ pub fn run_tool<F: Shelf, O: Sink, E: Sink>(
     let ending = run(alloc, words, shelf, out);
     report(ending, err)
 }
-
-#[cfg(test)]
-mod tests;

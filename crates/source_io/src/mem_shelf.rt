@@ -206,6 +206,3 @@ impl Shelf for MemShelf {
         self.files.insert(0, (name, out.into_bytes())).unwrap();
     }
 }
-
-#[cfg(test)]
-mod tests;

@@ -82,33 +82,3 @@ impl Sink for MemSink {
         Ok(n)
     }
 }
-
-#[cfg(test)]
-mod tests {
-    use super::*;
-    use crate::write_whole;
-    use std::test::Fail;
-
-    #[test]
-    fn writes_in_steps_until_a_write_fails_or_no_room_is_left(rt: HostRuntime) -> Result<(), Fail> {
-        // The room, the step and the write that fails; whether `abc` was written whole, what was, and the faults.
-        let cases: [(usize, usize, u64, bool, &[u8], u64); 5] = [
-            (3, 0, 0, true, b"abc", 0),
-            (3, 1, 4, true, b"abc", 0),
-            (3, 1, 2, false, b"a", 1),
-            (2, 0, 0, false, b"ab", 1),
-            (0, 1, 0, false, b"", 1),
-        ];
-        for (room, step, fails, whole, written, faults) in cases {
-            let mut sink = MemSink::new(rt.alloc(), room, step, vec![in rt.alloc(); fails]?)?;
-            assert_eq!(rt;
-                write_whole(&mut sink, b"abc").is_ok(),
-                whole,
-                "room {room}, step {step}"
-            );
-            assert_eq!(rt; sink.as_bytes(), written, "room {room}, step {step}");
-            assert_eq!(rt; sink.faults(), faults, "room {room}, step {step}");
-        }
-        Ok(())
-    }
-}

@@ -34,21 +34,3 @@ impl ByteSource for SureSource {
         Ok(n)
     }
 }
-
-#[cfg(test)]
-mod tests {
-    use super::*;
-    use crate::read_whole;
-    use std::test::Fail;
-
-    #[test]
-    fn reads_from_a_place(rt: HostRuntime) -> Result<(), Fail> {
-        let mut source = SureSource {
-            bytes: Vec::from_slice(rt.alloc(), b"hello")?,
-        };
-        let mut into = [0; 3];
-        assert!(rt; read_whole(&mut source, 1, &mut into).is_ok());
-        assert_eq!(rt; into, *b"ell");
-        Ok(())
-    }
-}

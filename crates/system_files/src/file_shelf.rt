@@ -1,0 +1,133 @@
+//! The files of the system as a shelf.
+ghost use Rattle.std.specs.Prelude.{◌≡◌, None, IfSome, option_map, string_bytes};
+ghost use Rattle.std.specs.Fs.{IsFile, file_type};
+
+use crate::fault_count::one_more;
+use crate::file_sink::FileSink;
+use crate::file_source::FileSource;
+use source_io::{NoMemory, OpenFault, Shelf};
+use std::alloc::Global;
+use std::fs;
+use std::fs::{Files, Metadata, OpenFile};
+use std::os::unix::fs::FileExt;
+
+/// The files that a runtime reaches by their paths. It tells nothing of what they hold.
+/// Source: own.
+#[derive(Drop)]
+pub struct FileShelf<R> {
+    /// What opens and creates files.
+    pub rt: R,
+    /// Where the sources' buffers and the name come from.
+    pub alloc: Global,
+    /// How many openings and creatings were not done. At its last value it stays.
+    pub faults: u64,
+    /// How many reads were not done by the sources that came back. At its last value it stays.
+    pub source_faults: u64,
+    /// How many writes were not done by the sinks of the files that were finished. At its last value it stays.
+    pub sink_faults: u64,
+    /// How many sources are lent.
+    pub lent: u64,
+    /// The name of the file that was created and is not finished.
+    pub making: Option<String>,
+}
+
+impl<R: Files> FileShelf<R> {
+    /// A shelf with no faults that has lent nothing.
+    pub fn new(rt: R, alloc: Global) -> FileShelf<R>
+        ensures faults { result.faults ≡ 0 }
+        ensures source_faults { result.source_faults ≡ 0 }
+        ensures sink_faults { result.sink_faults ≡ 0 }
+        ensures lent { result.lent ≡ 0 }
+        ensures making { result.making ≡ None }
+    {
+        FileShelf {
+            rt,
+            alloc,
+            faults: 0,
+            source_faults: 0,
+            sink_faults: 0,
+            lent: 0,
+            making: None,
+        }
+    }
+}
+
+impl<R: Files> Shelf for FileShelf<R>
+where
+    R::File: FileExt + Send,
+{
+    type Source = FileSource<R::File>;
+
+    type Out = FileSink<R::File>;
+
+    ghost holds = { λ _. None };
+
+    ghost faults = { λ s. s.faults };
+
+    ghost source_faults = { λ s. s.source_faults };
+
+    ghost sink_faults = { λ s. s.sink_faults };
+
+    ghost asked = { λ _. None };
+
+    ghost opened = { λ _. None };
+
+    ghost lent = { λ s. s.lent };
+
+    ghost making = { λ s. option_map string_bytes s.making };
+
+    fn open(&mut self, name: &str) -> Result<FileSource<R::File>, OpenFault> {
+        let Some((file, found)) = open_file(&self.rt, name) else {
+            self.faults = one_more(self.faults);
+            return Err(OpenFault::Failed);
+        };
+        match FileSource::new(self.alloc, file, &found) {
+            Ok(source) => {
+                self.lent += 1;
+                Ok(source)
+            }
+            Err(NoMemory) => Err(OpenFault::NoMemory),
+        }
+    }
+
+    fn close(&mut self, source: FileSource<R::File>) {
+        self.source_faults = self.source_faults.saturating_add(source.close());
+        self.lent -= 1;
+    }
+
+    // A file of the path that is there already is made empty.
+    fn create(&mut self, name: &str) -> Result<FileSink<R::File>, OpenFault> {
+        let Ok(made) = String::from_str(self.alloc, name) else {
+            return Err(OpenFault::NoMemory);
+        };
+        match fs::create(&self.rt, name) {
+            Ok(file) => {
+                self.making = Some(made);
+                Ok(FileSink::new(file))
+            }
+            Err(_) => {
+                self.faults = one_more(self.faults);
+                Err(OpenFault::Failed)
+            }
+        }
+    }
+
+    fn finish(&mut self, _name: &str, out: FileSink<R::File>) {
+        self.sink_faults = self.sink_faults.saturating_add(out.close());
+        self.making = None;
+    }
+}
+
+/// The file of a path, open for reading, and what the system says of it, as its size.
+/// `None` where it was not opened, where nothing is said of it, and where it is no regular file.
+fn open_file<R: Files>(rt: &R, path: &str) -> Option<(R::File, Metadata)>
+    ensures { IfSome result (λ opened. IsFile (file_type opened.1)) }
+{
+    let file = fs::open(rt, path).ok()?;
+    let found = file.metadata().ok()?;
+    if found.is_file() {
+        Some((file, found))
+    } else {
+        None
+    }
+}

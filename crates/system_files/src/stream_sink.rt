@@ -1,0 +1,55 @@
+//! Standard output and standard error as sinks.
+ghost use Rattle.std.specs.Prelude.{◌≡◌, ◌<◌, ◌≤◌, length, take, None, IfOk, OnErr};
+ghost use Rattle.std.specs.Io.KnownBytes.{Keeps, Appends};
+ghost use Rattle.source_io.specs.Told.{Rose};
+
+use crate::fault_count::one_more;
+use crate::one_write::write_some;
+use source_io::{Failed, Sink};
+use std::io::Write;
+
+/// A stream that bytes go to, as `rt.stdout()` or `rt.stderr()`. As a sink it tells nothing of what it took.
+/// The writer hands on what it takes at once, as those two do: a buffer would hide a fault.
+/// Source: own.
+#[derive(Drop)]
+pub struct StreamSink<W> {
+    /// What takes the bytes.
+    pub writer: W,
+    /// How many writes were not done. At its last value it stays.
+    pub faults: u64,
+}
+
+impl<W: Write> StreamSink<W> {
+    /// A sink with no faults.
+    pub fn new(writer: W) -> StreamSink<W>
+        ensures writer { result.writer ≡ writer }
+        ensures faults { result.faults ≡ 0 }
+    {
+        StreamSink { writer, faults: 0 }
+    }
+}
+
+impl<W: Write> Sink for StreamSink<W> {
+    ghost written = { λ _. None };
+
+    ghost faults = { λ s. s.faults };
+
+    fn write(&mut self, piece: &[u8]) -> Result<usize, Failed>
+        requires { 0 < length piece.now }
+        ensures count { IfOk result (λ n. (0 < n) × (n ≤ length piece.now)) }
+        ensures cause { OnErr result (Rose self.old.faults self.new.faults) }
+        ensures faults { self.old.faults ≤ self.new.faults }
+
+        // Where the writer tells its bytes, it took just those that the answer counts.
+        ensures taken { IfOk result (λ n. Appends (W.contents self.old.writer) (W.contents self.new.writer) (take n piece.now)) }
+        ensures kept { OnErr result (Keeps (W.contents self.old.writer) (W.contents self.new.writer)) }
+    {
+        match write_some(&mut self.writer, piece) {
+            Some(n) => Ok(n),
+            None => {
+                self.faults = one_more(self.faults);
+                Err(Failed)
+            }
+        }
+    }
+}
