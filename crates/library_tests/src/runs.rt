@@ -66,6 +66,14 @@ impl Ran {
         (self.status, self.out.as_bytes(), self.err.as_bytes())
     }
 
+    /// Whether a file holds these bytes.
+    fn left(&self, name: &str, bytes: &[u8]) -> bool {
+        match self.shelf.file(name) {
+            Some(held) => held == bytes,
+            None => false,
+        }
+    }
+
     /// Whether it ended with this fault, printed nothing, handed all back and made no file `new`.
     fn failed(&self, status: u8, said: &[u8]) -> bool {
         self.shows() == (status, b"".as_slice(), said)
@@ -162,6 +170,15 @@ fn each_read_that_fails_is_a_read_fault(rt: HostRuntime) -> Result<(), Fail> {
     Ok(())
 }
 
+/// The status, and what is said, of a run that makes so many writes, where this one fails.
+fn ending_of(fails: u64, writes: usize) -> (u8, &'static [u8]) {
+    if fails > writes as u64 {
+        (0, b"")
+    } else {
+        (6, WRITE_FAULT)
+    }
+}
+
 #[test]
 fn each_write_that_fails_leaves_what_was_written_before_it(rt: HostRuntime) -> Result<(), Fail> {
     for (line, whole) in [("verify a q", FOUND), ("info a", INFO)] {
@@ -169,12 +186,7 @@ fn each_write_that_fails_leaves_what_was_written_before_it(rt: HostRuntime) -> R
             let plan = Plan::calm(rt.alloc(), 1000);
             let ran = run_line(rt.alloc(), line, plan, 1, fails)?;
             let before = whole.as_bytes().get(..fails as usize - 1).unwrap_or(b"");
-            let is_whole = fails > whole.len() as u64;
-            let (status, said) = if is_whole {
-                (0, b"".as_slice())
-            } else {
-                (6, WRITE_FAULT)
-            };
+            let (status, said) = ending_of(fails, whole.len());
             assert_eq!(rt;
                 ran.shows(),
                 (status, before, said),
@@ -192,19 +204,15 @@ fn each_write_of_a_file_that_fails_leaves_what_was_written_before_it(
     for fails in 1..=ARRAY.len() as u64 + 1 {
         let plan = plan_of(rt.alloc(), 1, 0, (0, 0), (2, fails))?;
         let ran = run_line(rt.alloc(), "pack t new", plan, 0, 0)?;
-        let before = ARRAY.get(..fails as usize - 1);
-        let (status, said) = if fails > 128 {
-            (0, b"".as_slice())
-        } else {
-            (6, WRITE_FAULT)
-        };
+        let before = ARRAY.get(..fails as usize - 1).unwrap_or(b"");
+        let (status, said) = ending_of(fails, ARRAY.len());
         assert_eq!(rt;
             ran.shows(),
             (status, b"".as_slice(), said),
             "write {fails}"
         );
-        assert_eq!(rt; ran.shelf.file("new"), before, "write {fails}");
-        assert_eq!(rt; ran.shelf.file("t"), Some(TEXT.as_bytes()));
+        assert!(rt; ran.left("new", before), "write {fails}");
+        assert!(rt; ran.left("t", TEXT.as_bytes()), "write {fails}");
     }
     Ok(())
 }
