@@ -1,5 +1,6 @@
 -- Headers and the layouts that they state.
-use Rattle.std.proofs.Common.{◌≡◌, ℕ, ◌<◌, ◌≤◌, ◌≢◌, ◌==◌, nat_le, nat_eq, true, false, List, [], ◌∷◌, ◌++◌, length, drop, map, slice_index, Some, None, refl, sym, ap, ◌∙◌, arith, length-drop}
+-- Used by the proofs of `Files`, `header_has_96_bytes`, `read_layout`, `read_layout_is_written_the_same` and others.
+use Rattle.std.proofs.Common.{◌≡◌, ℕ, ◌<◌, ◌≤◌, ◌≢◌, ◌==◌, nat_le, nat_eq, true, false, List, [], ◌∷◌, ◌++◌, length, drop, map, slice_index, Some, None, option_map, refl, sym, ap, ◌∙◌, arith, length-drop}
 use Rattle.std.specs.List.{All, flat_map, range_with_len, starts_with}
 use Rattle.std.proofs.lemmas.Bool.{le-leb, lt-leb, eq-eqb, eqb-true, ne_eqb}
 use Rattle.std.proofs.lemmas.Bool.Decides.{Decides-eqb}
@@ -8,47 +9,49 @@ use Rattle.std.proofs.lemmas.List.Elements.{All-drop, recursion_from_All}
 use Rattle.std.proofs.lemmas.Slice.Eq.{starts_is}
 use borrow.Rule.Slice.PartMut.{put_mid, post_of}
 use Rattle.byteorder.specs.Endian.{little_bytes}
-use Rattle.grid_cells.specs.LayoutParts.{LayoutParts}
-use Rattle.grid_cells.specs.Rules.{Rule, IsLayout, first_broken, layout_rules}
-use Rattle.grid_cells.specs.declared.refusal.LayoutRefusal.{LayoutRefusal}
-use Rattle.grid_cells.specs.declared.refusal.LayoutRefusal.TheVariants.{Short, Magic, Version, WrongLength}
+use Rattle.layouts.specs.declared.numbers.LayoutNumbers.{LayoutNumbers}
+use Rattle.lists.specs.Rules.{Rule, first_broken}
+use Rattle.layouts.specs.Rules.{IsLayout, layout_rules}
+use Rattle.layouts.specs.declared.refusal.LayoutRefusal.{LayoutRefusal}
+use Rattle.array_file.specs.declared.refusal.FileRefusal.{FileRefusal}
+use Rattle.array_file.specs.declared.refusal.FileRefusal.TheVariants.{Short, Magic, Version, Layout, WrongLength}
 use Rattle.array_file.specs.Header.{magic_word, header_number, header_numbers, layout_in, stored_layout, layout_numbers, header_of, file_size, file_rules, layout_refusal}
-use Rattle.grid_cells.proofs.Kept.{all_kept, first_broken-broken, first_broken-kept}
+use Rattle.lists.proofs.Rules.{all_kept, first_broken-broken, first_broken-kept, first_broken-map}
 use Rattle.array_file.proofs.Rules.{one-kept, one-broken}
 use Rattle.array_file.proofs.Numbers.{length-written, numbers_at-written, bytes-numbers_at}
 use Rattle.array_file.proofs.Layouts.{spelled, spelled_is, words}
 
 -- ---- what is written
 
-length-spelled : (l : LayoutParts) → length (header_of (spelled l)) ≡ 96
+length-spelled : (l : LayoutNumbers) → length (header_of (spelled l)) ≡ 96
 unfolding header_of
 length-spelled l = let e = length-written (layout_numbers (spelled l)) in omega (arith, e)
 
 -- the header of a layout has 96 bytes
-pub length-header : (l : LayoutParts) → IsLayout l → length (header_of l) ≡ 96
-length-header l h = ap (λ (parts : LayoutParts). length (header_of parts)) (spelled_is l h) ∙ length-spelled l
+pub length-header : (l : LayoutNumbers) → IsLayout l → length (header_of l) ≡ 96
+length-header l h = ap (λ (parts : LayoutNumbers). length (header_of parts)) (spelled_is l h) ∙ length-spelled l
 
 -- its numbers are those of the layout
-header_numbers-spelled : (l : LayoutParts) → IsLayout l → header_numbers (header_of (spelled l)) ≡ layout_numbers (spelled l)
+header_numbers-spelled : (l : LayoutNumbers) → IsLayout l → header_numbers (header_of (spelled l)) ≡ layout_numbers (spelled l)
 unfolding header_of header_numbers
 header_numbers-spelled l h = numbers_at-written (layout_numbers (spelled l)) (words l h)
 
-stored_layout-spelled : (l : LayoutParts) → IsLayout l → stored_layout (header_of (spelled l)) ≡ spelled l
+stored_layout-spelled : (l : LayoutNumbers) → IsLayout l → stored_layout (header_of (spelled l)) ≡ spelled l
 unfolding stored_layout
 stored_layout-spelled l h = ap layout_in (header_numbers-spelled l h)
 
 -- it states that layout
-pub stored_layout-header : (l : LayoutParts) → IsLayout l → stored_layout (header_of l) ≡ l
+pub stored_layout-header : (l : LayoutNumbers) → IsLayout l → stored_layout (header_of l) ≡ l
 stored_layout-header l h =
-    ap (λ (parts : LayoutParts). stored_layout (header_of parts)) (spelled_is l h) ∙ stored_layout-spelled l h ∙ sym (spelled_is l h)
+    ap (λ (parts : LayoutNumbers). stored_layout (header_of parts)) (spelled_is l h) ∙ stored_layout-spelled l h ∙ sym (spelled_is l h)
 
 -- after the magic word and the numbers were put into 96 bytes
-pub put_header : (l : LayoutParts) (into front numbers back : List ℕ) → length into ≡ 96 → front ≡ magic_word → numbers ≡ layout_numbers l
-    → back ≡ flat_map (little_bytes 4) numbers → put_mid 12 84 (front ++ post_of 0 12 into) back ≡ header_of l
+pub put_header : (l : LayoutNumbers) (into prefix numbers back : List ℕ) → length into ≡ 96 → prefix ≡ magic_word → numbers ≡ layout_numbers l
+    → back ≡ flat_map (little_bytes 4) numbers → put_mid 12 84 (prefix ++ post_of 0 12 into) back ≡ header_of l
 unfolding header_of
-put_header l into front numbers back long is_front is_numbers is_back =
+put_header l into prefix numbers back long is_prefix is_numbers is_back =
     let none = drop_all 84 (drop 12 into) (omega (arith, length-drop 12 into)) in
-    ap (λ (f : List ℕ). put_mid 12 84 (f ++ post_of 0 12 into) back) is_front
+    ap (λ (f : List ℕ). put_mid 12 84 (f ++ post_of 0 12 into) back) is_prefix
     ∙ ap (λ (rest : List ℕ). magic_word ++ (back ++ rest)) none
     ∙ ap (λ (b : List ℕ). magic_word ++ b) (append-nil back ∙ is_back ∙ ap (flat_map (little_bytes 4)) is_numbers)
 
@@ -91,17 +94,21 @@ abbrev version : List ℕ → ℕ
 version header = slice_index (header_numbers header) 0
 
 -- the rule of the length
-abbrev length_rule : List ℕ → ℕ → Rule
+abbrev length_rule : List ℕ → ℕ → Rule FileRefusal
 length_rule header size = (size == file_size (stored_layout header), WrongLength (file_size (stored_layout header)) size)
 
--- the rules behind that of the version, behind that of the magic word, and behind that of the header's length
-abbrev later_rules : List ℕ → ℕ → List Rule
-later_rules header size = layout_rules (stored_layout header) ++ length_rule header size ∷ []
+-- rules of a layout, as those of a file
+abbrev in_file : List (Rule LayoutRefusal) → List (Rule FileRefusal)
+in_file rules = map (λ r. (r.0, Layout r.1)) rules
 
-abbrev version_rules : List ℕ → ℕ → List Rule
+-- the rules after that of the version, after that of the magic word, and after that of the header's length
+abbrev later_rules : List ℕ → ℕ → List (Rule FileRefusal)
+later_rules header size = in_file (layout_rules (stored_layout header)) ++ length_rule header size ∷ []
+
+abbrev version_rules : List ℕ → ℕ → List (Rule FileRefusal)
 version_rules header size = (version header == 1, Version (version header)) ∷ later_rules header size
 
-abbrev magic_rules : List ℕ → ℕ → List Rule
+abbrev magic_rules : List ℕ → ℕ → List (Rule FileRefusal)
 magic_rules header size = (starts_with nat_eq header magic_word, Magic) ∷ version_rules header size
 
 pub layout_refusal-short : (header : List ℕ) (size : ℕ) → size < 96 → layout_refusal header size ≡ Some (Short size)
@@ -114,7 +121,7 @@ layout_refusal-magic header size long magic =
     one-kept (nat_le 96 size) (Short size) (magic_rules header size) (le-leb 96 size long)
     ∙ one-broken (starts_with nat_eq header magic_word) Magic (version_rules header size) magic
 
--- behind the size and the magic word
+-- after the size and the magic word
 version_first : (header : List ℕ) (size : ℕ) → 96 ≤ size → starts_with nat_eq header magic_word ≡ true
     → layout_refusal header size ≡ first_broken (version_rules header size)
 unfolding layout_refusal
@@ -128,7 +135,7 @@ layout_refusal-version header size long magic other =
     version_first header size long magic
     ∙ one-broken (version header == 1) (Version (version header)) (later_rules header size) (ne_eqb (version header) 1 other)
 
--- behind the version
+-- after the version
 layout_first : (header : List ℕ) (size : ℕ) → 96 ≤ size → starts_with nat_eq header magic_word ≡ true → version header ≡ 1
     → layout_refusal header size ≡ first_broken (later_rules header size)
 layout_first header size long magic one =
@@ -136,17 +143,17 @@ layout_first header size long magic one =
     ∙ one-kept (version header == 1) (Version (version header)) (later_rules header size) (eq-eqb (version header) 1 one)
 
 pub layout_refusal-layout : (header : List ℕ) (size : ℕ) (refusal : LayoutRefusal) → 96 ≤ size → starts_with nat_eq header magic_word ≡ true → version header ≡ 1
-    → first_broken (layout_rules (stored_layout header)) ≡ Some refusal → layout_refusal header size ≡ Some refusal
+    → first_broken (layout_rules (stored_layout header)) ≡ Some refusal → layout_refusal header size ≡ Some (Layout refusal)
 layout_refusal-layout header size refusal long magic one broken =
     layout_first header size long magic one
-    ∙ first_broken-broken (layout_rules (stored_layout header)) (length_rule header size ∷ []) refusal broken
+    ∙ first_broken-broken (in_file (layout_rules (stored_layout header))) (length_rule header size ∷ []) (Layout refusal) (first_broken-map Layout (layout_rules (stored_layout header)) ∙ ap (option_map Layout) broken)
 
--- behind the layout
+-- after the layout
 length_first : (header : List ℕ) (size : ℕ) → 96 ≤ size → starts_with nat_eq header magic_word ≡ true → version header ≡ 1
     → first_broken (layout_rules (stored_layout header)) ≡ None → layout_refusal header size ≡ first_broken (length_rule header size ∷ [])
 length_first header size long magic one kept =
     layout_first header size long magic one
-    ∙ first_broken-kept (layout_rules (stored_layout header)) (length_rule header size ∷ []) kept
+    ∙ first_broken-kept (in_file (layout_rules (stored_layout header))) (length_rule header size ∷ []) (first_broken-map Layout (layout_rules (stored_layout header)) ∙ ap (option_map Layout) kept)
 
 pub layout_refusal-length : (header : List ℕ) (size : ℕ) → 96 ≤ size → starts_with nat_eq header magic_word ≡ true → version header ≡ 1
     → first_broken (layout_rules (stored_layout header)) ≡ None → size ≢ file_size (stored_layout header)
@@ -165,18 +172,18 @@ layout_refusal-none header size long magic one kept whole =
 
 -- ---- what is written is accepted
 
-starts-header : (l : LayoutParts) → starts_with nat_eq (header_of l) magic_word ≡ true
+starts-header : (l : LayoutNumbers) → starts_with nat_eq (header_of l) magic_word ≡ true
 unfolding header_of
 starts-header l = refl
 
-version-header : (l : LayoutParts) → IsLayout l → version (header_of l) ≡ 1
+version-header : (l : LayoutNumbers) → IsLayout l → version (header_of l) ≡ 1
 version-header l h =
-    ap (λ (parts : LayoutParts). version (header_of parts)) (spelled_is l h)
+    ap (λ (parts : LayoutNumbers). version (header_of parts)) (spelled_is l h)
     ∙ ap (λ (numbers : List ℕ). slice_index numbers 0) (header_numbers-spelled l h)
 
-pub layout_refusal-header : (l : LayoutParts) → IsLayout l → layout_refusal (header_of l) (file_size l) ≡ None
+pub layout_refusal-header : (l : LayoutNumbers) → IsLayout l → layout_refusal (header_of l) (file_size l) ≡ None
 layout_refusal-header l h =
     let same = stored_layout-header l h in
     layout_refusal-none (header_of l) (file_size l) (omega arith) (starts-header l) (version-header l h)
-    (ap (λ (parts : LayoutParts). first_broken (layout_rules parts)) same ∙ h.rules)
+    (ap (λ (parts : LayoutNumbers). first_broken (layout_rules parts)) same ∙ h.rules)
     (ap file_size (sym same))

@@ -1,12 +1,13 @@
 -- A layout that keeps its rules, number by number.
+-- Used by the proofs of `Headers` and `numbers_of`.
 use Rattle.std.proofs.Common.{◌≡◌, ℕ, ◌+◌, ◌^◌, ◌<◌, ◌≤◌, ◌==◌, ◌&&◌, nat_le, nat_lt, Bool, true, false, List, [], ◌∷◌, length, slice_index, slice_index_or, if◌then◌else◌, refl, ◌∙◌, arith}
 use Rattle.std.proofs.lemmas.Bool.{and_parts, leb-true, eqb-true}
-use Rattle.grid_cells.specs.LayoutParts.{LayoutParts}
-use Rattle.grid_cells.specs.Chunks.{block_of}
-use Rattle.grid_cells.specs.Rules.{IsLayout, layout_rules, is_between, block_extent, block_is_good, nests}
+use Rattle.layouts.specs.declared.numbers.LayoutNumbers.{LayoutNumbers}
+use Rattle.layouts.specs.Chunks.{block_extents}
+use Rattle.layouts.specs.Rules.{IsLayout, layout_rules, is_between, block_extent, block_is_good, nests}
 use Rattle.array_file.specs.Header.{layout_numbers}
 use Rattle.array_file.proofs.Numbers.{AreWords}
-use Rattle.grid_cells.proofs.Kept.{all_kept}
+use Rattle.lists.proofs.Rules.{all_kept}
 
 -- ---- lists of three and of four
 
@@ -33,7 +34,7 @@ abbrev pub three : (ℕ → ℕ) → List ℕ
 three f = f 0 ∷ f 1 ∷ f 2 ∷ []
 
 -- a layout, number by number
-abbrev pub spelled : LayoutParts → LayoutParts
+abbrev pub spelled : LayoutNumbers → LayoutNumbers
 spelled l = record {
   rank = l.rank;
   extents = three (slice_index l.extents);
@@ -42,12 +43,12 @@ spelled l = record {
   blocks = three (block_extent l 0) ∷ three (block_extent l 1) ∷ three (block_extent l 2) ∷ three (block_extent l 3) ∷ [];
 }
 
-pub spelled_is : (l : LayoutParts) → IsLayout l → l ≡ spelled l
+pub spelled_is : (l : LayoutNumbers) → IsLayout l → l ≡ spelled l
 spelled_is l h =
     let extents = three_items l.extents h.extents in
     let chunk = three_items l.chunk h.chunk in
     let all = four_lists l.blocks h.levels in
-    let block : (k : ℕ) → k < 4 → block_of l k ≡ three (block_extent l k) = λ k below. three_items (block_of l k) (h.blocks k [] (omega (arith, h.levels))) in
+    let block : (k : ℕ) → k < 4 → block_extents l k ≡ three (block_extent l k) = λ k below. three_items (block_extents l k) (h.blocks k [] (omega (arith, h.levels))) in
     let blocks : l.blocks ≡ (spelled l).blocks = all ∙ (λ i. block 0 (omega arith) i ∷ block 1 (omega arith) i ∷ block 2 (omega arith) i ∷ block 3 (omega arith) i ∷ []) in
     λ i. record { rank = l.rank; extents = extents i; chunk = chunk i; levels = l.levels; blocks = blocks i }
 
@@ -82,7 +83,7 @@ none_unused false used nests n unused e = eqb-true n 0 e
 -- ---- all its numbers
 
 -- each of them fits four bytes
-pub words : (l : LayoutParts) → IsLayout l → AreWords (layout_numbers (spelled l))
+pub words : (l : LayoutNumbers) → IsLayout l → AreWords (layout_numbers (spelled l))
 words l h =
     let k = all_kept (layout_rules l) h.rules in
     let rank = leb-true l.rank 3 (and_parts (nat_le 1 l.rank) (nat_le l.rank 3) k.0).1 in

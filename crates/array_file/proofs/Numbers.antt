@@ -1,4 +1,5 @@
 -- Numbers of four bytes, the lowest byte first, one after the other.
+-- Used by the proofs of `Headers` and `Layouts`.
 use Rattle.std.proofs.Common.{◌≡◌, ℕ, zero, suc, ◌+◌, ◌*◌, ◌^◌, ◌<◌, List, [], ◌∷◌, length, drop, map, get_or, refl, sym, ap, ◌∙◌, arith}
 use Rattle.std.specs.List.{range_with_len, flat_map, AllByRecursion}
 use Rattle.std.specs.Int.{byte_at}

@@ -1,12 +1,14 @@
 -- The header of an array file: its numbers, the layout that they state, and the first rule that a file breaks.
+-- Used by `chunk_store` and `search_run`, and in this crate.
 use Rattle.std.specs.Prelude.{ℕ, ◌+◌, ◌*◌, ◌==◌, nat_le, nat_eq, List, [], ◌∷◌, ◌++◌, take, drop, map, slice_index, Option, codes}
 use Rattle.std.specs.List.{flat_map, range_with_len, starts_with}
 use Rattle.byteorder.specs.Endian.{little_bytes, little_number}
-use Rattle.grid_cells.specs.LayoutParts.{LayoutParts}
-use Rattle.grid_cells.specs.Chunks.{chunk_cells, chunk_count}
-use Rattle.grid_cells.specs.Rules.{Rule, first_broken, layout_rules}
-use Rattle.grid_cells.specs.declared.refusal.LayoutRefusal.{LayoutRefusal}
-use Rattle.grid_cells.specs.declared.refusal.LayoutRefusal.TheVariants.{Short, Magic, Version, WrongLength}
+use Rattle.layouts.specs.declared.numbers.LayoutNumbers.{LayoutNumbers}
+use Rattle.layouts.specs.Chunks.{chunk_cells, chunk_count}
+use Rattle.lists.specs.Rules.{Rule, first_broken}
+use Rattle.layouts.specs.Rules.{layout_rules}
+use Rattle.array_file.specs.declared.refusal.FileRefusal.{FileRefusal}
+use Rattle.array_file.specs.declared.refusal.FileRefusal.TheVariants.{Short, Magic, Version, Layout, WrongLength}
 
 -- the twelve bytes that each array file begins with
 abbrev pub magic_word : List ℕ
@@ -14,7 +16,7 @@ magic_word = codes "SEARCHLIGHT\n"
 
 -- ---- from a header to a layout
 
--- the k-th number of the header, behind the magic word
+-- the k-th number of the header, after the magic word
 abbrev pub header_number : List ℕ → ℕ → ℕ
 header_number header k = little_number 4 (drop (4 * k) (drop 12 header))
 
@@ -27,7 +29,7 @@ abbrev pub three_from : List ℕ → ℕ → List ℕ
 three_from numbers k = take 3 (drop k numbers)
 
 -- the layout that the header's numbers state
-abbrev pub layout_in : List ℕ → LayoutParts
+abbrev pub layout_in : List ℕ → LayoutNumbers
 layout_in numbers = record {
   rank = slice_index numbers 1;
   extents = three_from numbers 2;
@@ -37,34 +39,34 @@ layout_in numbers = record {
 }
 
 -- the layout that a header states
-unfoldable pub stored_layout : List ℕ → LayoutParts
+unfoldable pub stored_layout : List ℕ → LayoutNumbers
 stored_layout header = layout_in (header_numbers header)
 
 -- ---- from a layout to a header
 
 -- the 21 numbers of a layout
-abbrev pub layout_numbers : LayoutParts → List ℕ
+abbrev pub layout_numbers : LayoutNumbers → List ℕ
 layout_numbers l = 1 ∷ l.rank ∷ [] ++ l.extents ++ l.chunk ++ l.levels ∷ [] ++ flat_map (λ block. block) l.blocks
 
 -- the header of a layout: the magic word, and its numbers of four bytes each, the lowest byte first
-unfoldable pub header_of : LayoutParts → List ℕ
+unfoldable pub header_of : LayoutNumbers → List ℕ
 header_of l = magic_word ++ flat_map (little_bytes 4) (layout_numbers l)
 
 -- ---- which files are refused
 
 -- how many bytes the header and the chunks of a layout take
-abbrev pub file_size : LayoutParts → ℕ
+abbrev pub file_size : LayoutNumbers → ℕ
 file_size l = 96 + 4 * chunk_cells l * chunk_count l
 
 -- the rules of a file with this header, which is all of a shorter file, and this size in bytes
-abbrev pub file_rules : List ℕ → ℕ → List Rule
+abbrev pub file_rules : List ℕ → ℕ → List (Rule FileRefusal)
 file_rules header size =
     (nat_le 96 size, Short size) ∷ []
     ++ (starts_with nat_eq header magic_word, Magic) ∷ []
     ++ (slice_index (header_numbers header) 0 == 1, Version (slice_index (header_numbers header) 0)) ∷ []
-    ++ layout_rules (stored_layout header)
+    ++ map (λ r. (r.0, Layout r.1)) (layout_rules (stored_layout header))
     ++ (size == file_size (stored_layout header), WrongLength (file_size (stored_layout header)) size) ∷ []
 
 -- the refusal of the first rule that such a file breaks
-unfoldable pub layout_refusal : List ℕ → ℕ → Option LayoutRefusal
+unfoldable pub layout_refusal : List ℕ → ℕ → Option FileRefusal
 layout_refusal header size = first_broken (file_rules header size)

@@ -1,6 +1,7 @@
 -- What reading a header answers.
+-- Used in this crate alone.
 use Rattle.std.specs.Prelude.{◌≡◌, ℕ, List, take, Option, Some, None, Result, Ok, Err}
-use Rattle.grid_cells.specs.declared.layout.Layout.{Layout}
+use Rattle.layouts.specs.declared.layout.Layout.{Layout}
 use Rattle.array_file.specs.Header.{stored_layout}
 use Rattle.array_file.specs.Stored.{refusal_of}
 use Rattle.array_file.specs.declared.header.HeaderFault.{HeaderFault}

@@ -1,15 +1,17 @@
-//! The header of an array file.
+//! The header of an array file, read and written.
+//! Used in this crate by `writing`, and by `search_run`.
 ghost use Rattle.std.specs.Prelude.{◌≡◌, ◌+◌, ◌≤◌, Some, None, length, min, MatchResult, IfOk, IsErrOf};
 ghost use Rattle.source_io.specs.Told.{Rose};
 ghost use Rattle.source_io.specs.Asked.{Asks};
-ghost use Rattle.grid_cells.specs.Rules.{first_broken, layout_rules};
+ghost use Rattle.lists.specs.Rules.{first_broken};
+ghost use Rattle.layouts.specs.Rules.{layout_rules};
 ghost use Rattle.array_file.specs.Header as parts;
 ghost use Rattle.array_file.specs.Header.{header_numbers, layout_in, layout_numbers, layout_refusal, stored_layout, three_from, header_of};
 ghost use Rattle.array_file.specs.Reads.{ReadsHeader};
 
-use crate::{HEADER_BYTES, file_size};
+use crate::{FileRefusal, HEADER_BYTES, file_size};
 use byteorder::{ByteOrder, LittleEndian};
-use grid_cells::{Layout, LayoutRefusal};
+use layouts::{Layout, LayoutNumbers, LayoutRefusal};
 use source_io::{ByteSource, read_whole};
 
 /// The twelve bytes that each array file begins with.
@@ -18,16 +20,16 @@ const MAGIC: &[u8; 12] = b"SEARCHLIGHT\n";
 /// The version of array files that this crate reads and writes.
 const VERSION: u32 = 1;
 
-/// Why no layout was read. Source: own.
+/// Why no layout was read.
 #[derive(Clone, Copy, Debug, PartialEq, Eq)]
 pub enum HeaderFault {
     /// The file breaks a rule.
-    Refused(LayoutRefusal),
+    Refused(FileRefusal),
     /// The source counted a fault.
     Read,
 }
 
-/// The 21 numbers behind the magic word.
+/// The 21 numbers after the magic word.
 fn numbers(header: &[u8]) -> [u32; 21]
     requires { length header.now ≡ 96 }
     ensures { result ≡ header_numbers header.now }
@@ -57,19 +59,19 @@ fn layout_from(numbers: &[u32; 21]) -> Result<Layout, LayoutRefusal>
         three(numbers, 15),
         three(numbers, 18),
     ];
-    Layout::new(
-        numbers[1],
-        three(numbers, 2),
-        three(numbers, 5),
-        numbers[8],
+    Layout::new(LayoutNumbers {
+        rank: numbers[1],
+        extents: three(numbers, 2),
+        chunk: three(numbers, 5),
+        levels: numbers[8],
         blocks,
-    )
+    })
 }
 
 /// The layout that a file's header states, exactly where the file keeps every rule; else the refusal of
 /// the first rule that it breaks. `bytes` is the first 96 bytes, or all of a shorter file, and `size` is
-/// how many the file has. Source: own.
-pub fn read_layout(bytes: &[u8], size: u64) -> Result<Layout, LayoutRefusal>
+/// how many the file has.
+pub fn read_layout(bytes: &[u8], size: u64) -> Result<Layout, FileRefusal>
     requires { length bytes.now ≡ min 96 size }
     ensures exactly { MatchResult result
         (λ l. (layout_refusal bytes.now size ≡ None) × (l ≡ stored_layout bytes.now))
@@ -77,23 +79,23 @@ pub fn read_layout(bytes: &[u8], size: u64) -> Result<Layout, LayoutRefusal>
     ensures size { IfOk result (λ l. parts.file_size l ≡ size) }
 {
     if bytes.len() < HEADER_BYTES {
-        return Err(LayoutRefusal::Short { size });
+        return Err(FileRefusal::Short { size });
     }
     if !bytes.starts_with(MAGIC) {
-        return Err(LayoutRefusal::Magic);
+        return Err(FileRefusal::Magic);
     }
     let numbers = numbers(bytes);
     let version = numbers[0];
     if version != VERSION {
-        return Err(LayoutRefusal::Version { n: version });
+        return Err(FileRefusal::Version { n: version });
     }
     let layout = match layout_from(&numbers) {
         Ok(layout) => layout,
-        Err(refusal) => return Err(refusal),
+        Err(refusal) => return Err(FileRefusal::Layout(refusal)),
     };
     let stated = file_size(&layout);
     if size != stated {
-        return Err(LayoutRefusal::WrongLength {
+        return Err(FileRefusal::WrongLength {
             stated,
             found: size,
         });
@@ -102,7 +104,7 @@ pub fn read_layout(bytes: &[u8], size: u64) -> Result<Layout, LayoutRefusal>
 }
 
 /// Reads the layout of a file from its header, which is its first 96 bytes, or all of a shorter file.
-/// `Refused` exactly by the rules of `read_layout`; `Read` where the source counted a fault. Source: own.
+/// `Refused` exactly by the rules of `read_layout`; `Read` where the source counted a fault.
 pub fn read_header<S: ByteSource>(src: &mut S) -> Result<Layout, HeaderFault>
     ensures read { ReadsHeader (S.bytes src.old) result }
     ensures size { IfOk result (λ l. parts.file_size l ≡ S.len src.old) }
@@ -143,7 +145,7 @@ fn numbers_of(layout: &Layout) -> [u32; 21]
     ]
 }
 
-/// Writes the header of a layout. Source: own.
+/// Writes the header of a layout.
 pub fn write_layout(layout: &Layout, into: &mut [u8; 96])
     ensures { into.new ≡ header_of layout.now }
 {

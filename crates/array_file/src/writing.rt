@@ -1,26 +1,29 @@
-//! Whole array files, as they are written.
+//! Writing whole array files. The command `pack` does.
+//! Used by `search_run`.
 ghost use Rattle.std.specs.Prelude.{◌≡◌, ◌+◌, ◌*◌, ◌≤◌, length, OnErr};
 ghost use Rattle.source_io.specs.Told.{Rose};
 ghost use Rattle.source_io.specs.Written.{Writes};
-ghost use Rattle.grid_cells.specs.Numbers.{product};
-ghost use Rattle.grid_cells.specs.Chunks.{chunk_count};
+ghost use Rattle.lists.specs.Numbers.{product};
+ghost use Rattle.layouts.specs.Chunks.{chunk_count};
 ghost use Rattle.array_file.specs.Written.{bytes_of_cells, bytes_of_chunks, array_bytes};
 
 use crate::{HEADER_BYTES, write_layout};
 use byteorder::{ByteOrder, LittleEndian};
-use grid_cells::{Cell, Layout, MOST_CHUNK_CELLS};
+use cells::Cell;
+use chunk_copies::take_chunk;
+use layouts::{Layout, MOST_CHUNK_CELLS};
 use source_io::{Failed, Sink, write_whole};
 
 /// How many cells are written at a time.
 const PIECE_CELLS: usize = 16384;
 
-/// How many bytes they have.
+/// The size of these cells, in bytes.
 const PIECE_BYTES: usize = 65536;
 
 /// How many cells a chunk has at most.
 const CHUNK_ROOM: usize = MOST_CHUNK_CELLS as usize;
 
-/// Puts the bytes of the cells in place of those that are there.
+/// Replaces `bytes` by the bytes of the cells: four for each cell, the lowest first.
 fn put_bytes(cells: &[Cell], bytes: &mut [u8])
     requires { length bytes.old ≡ 4 * length cells.now }
     ensures { bytes.new ≡ bytes_of_cells cells.now }
@@ -30,7 +33,7 @@ fn put_bytes(cells: &[Cell], bytes: &mut [u8])
     }
 }
 
-/// Writes cells, at most a piece.
+/// Writes at most `PIECE_CELLS` cells.
 fn write_piece<K: Sink>(
     cells: &[Cell],
     bytes: &mut [u8; PIECE_BYTES],
@@ -65,8 +68,8 @@ fn write_cells<K: Sink>(
     Ok(())
 }
 
-/// Writes the chunks of an array with these cells, in order. There is room for the cells of a chunk and for the
-/// bytes of a piece.
+/// Writes the chunks of an array with these cells, in order. `room` is for the cells of a chunk, and `bytes` for
+/// the bytes of a piece.
 fn write_each<K: Sink>(
     layout: &Layout,
     cells: &[Cell],
@@ -81,7 +84,7 @@ fn write_each<K: Sink>(
 {
     let chunk = &mut room[..layout.chunk_cells() as usize];
     for n in 0..layout.chunks() {
-        layout.take_chunk(n, cells, chunk);
+        take_chunk(layout, n, cells, chunk);
         write_cells(chunk, bytes, sink)?;
     }
     Ok(())
@@ -99,9 +102,9 @@ fn write_chunks<K: Sink>(layout: &Layout, cells: &[Cell], sink: &mut K) -> Resul
     write_each(layout, cells, &mut room, &mut bytes, sink)
 }
 
-/// Writes the array file of a layout and its cells, which are in row-major order. Where a chunk sticks out of
-/// the array it has empty cells. `Failed` where the sink counted a fault; a front of the file was then
-/// written. It takes no memory. Source: own.
+/// Writes the array file of a layout and its cells, which are in row-major order. A chunk that extends past the
+/// end of the array has empty cells there. It takes no memory.
+/// `Failed` where the sink counted a fault. A prefix of the file was then written.
 pub fn write_array<K: Sink>(layout: &Layout, cells: &[Cell], sink: &mut K) -> Result<(), Failed>
     requires { length cells.now ≡ product layout.now.extents }
     ensures written { Writes result (array_bytes layout.now cells.now) (K.written sink.old) (K.written sink.new) }

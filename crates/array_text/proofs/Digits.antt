@@ -1,4 +1,5 @@
 -- The digits of the first word, one after the other.
+-- Used by the proofs of `Leading` and `leading_digits`.
 use Rattle.std.proofs.Common.{◌≡◌, ℕ, ◌+◌, ◌*◌, ◌<◌, ◌≤◌, ◌^◌, ◌&&◌, nat_le, Bool, true, false, cond, List, ◌∷◌, length, get_or, drop, Option, Some, None, refl, ap, ◌∙◌, arith}
 use Rattle.std.specs.Option.{option_and_then}
 use Rattle.std.proofs.Math.Seq.{drop-length}

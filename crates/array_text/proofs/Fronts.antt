@@ -1,4 +1,5 @@
 -- The words of bytes, from the front.
+-- Used by the proofs of `Digits`, `WordLaws`, `a_blank_adds_no_word`, `leading_digits` and others.
 use Rattle.std.proofs.Common.{◌≡◌, ℕ, suc, ◌+◌, ◌-◌, ◌<◌, Bool, true, false, cond, List, [], ◌∷◌, length, get_or, take, drop, filter, refl, ap, ◌∙◌, sym, arith, length-drop}
 use Rattle.std.proofs.lemmas.List.{take_all}
 use Rattle.std.specs.List.{slice_split, onto_first}

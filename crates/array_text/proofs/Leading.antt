@@ -1,9 +1,10 @@
 -- What the first word is as a number, and as a cell.
+-- Used by the proofs of `WrittenNumbers`, `leading_cell`, `leading_empty`, `leading_negative` and `leading_number`.
 use Rattle.std.proofs.Common.{◌≡◌, ◌≢◌, ℕ, ◌<◌, ◌≤◌, ◌&&◌, nat_le, Bool, true, false, cond, List, [], ◌∷◌, length, Option, Some, None, bytes_eq, refl, ap, ◌∙◌, sym, arith, pos, neg_ℤ, ◌-ℤ◌, to_z, of_z, w32}
 use Rattle.std.specs.Option.{option_and_then, option_map}
 use Rattle.std.proofs.lemmas.Bool.{lt-leb, le-leb, ne_eqb}
 use Rattle.std.proofs.lemmas.Int.{ints}
-use Rattle.grid_cells.specs.Placing.{empty_cell}
+use Rattle.cells.specs.Cells.{empty_cell}
 use Rattle.array_text.specs.Numbers.{digits_from, number_written, up_to, number_up_to, cell_number, stored, positive_cell, negative_cell, number_cell, cell_of}
 use Rattle.array_text.specs.Words.{is_blank, first_word, behind_word}
 use Rattle.array_text.specs.Reads.{leading}

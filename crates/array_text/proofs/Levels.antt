@@ -1,8 +1,9 @@
 -- The levels of a text and its cells, one after the other.
+-- Used by the proofs of `read_cells` and `read_levels`.
 use Rattle.std.proofs.Common.{◌≡◌, ℕ, suc, ◌+◌, ◌-◌, ◌<◌, List, [], ◌∷◌, ◌++◌, Option, Some, None, Ok, Err, slice_set, codes, ap, ◌∙◌, arith}
 use Rattle.std.specs.Prelude.{⊤}
 use Rattle.std.specs.Option.{option_map_or}
-use Rattle.grid_cells.specs.declared.cell.Cell.{Cell}
+use Rattle.cells.specs.declared.cell.Cell.{Cell}
 use Rattle.array_text.specs.declared.fault.TextRefusal.{TextRefusal}
 use Rattle.array_text.specs.Numbers.{cell_of}
 use Rattle.array_text.specs.Walk.{Walked, Rest, word, ◌>>=◌, next_level, levels_from, cells_from, this_word}

@@ -1,11 +1,12 @@
 -- The digits of a number write that number.
+-- Used by the proofs of `digits_write_the_cell` and `digits_write_the_number`.
 use Rattle.std.proofs.Common.{◌≡◌, ◌≢◌, ℕ, suc, ◌+◌, ◌-◌, ◌*◌, ◌/◌, ◌%◌, ◌<◌, ◌≤◌, ◌^◌, ◌&&◌, nat_le, cond, List, [], ◌∷◌, ◌++◌, length, Option, Some, None, refl, ap, ◌∙◌, arith, ℤ, pos, negsuc, neg_ℤ}
 use Rattle.std.specs.Fmt.{decimal, signed_decimal}
 use Rattle.std.specs.Option.{option_and_then, option_map}
 use Rattle.std.proofs.lemmas.Bool.{le-leb}
 use Rattle.std.proofs.lemmas.Fmt.{decimal_by_steps, decimal_nonempty, length-decimal-le}
 use Rattle.std.proofs.lemmas.Int.{ints}
-use Rattle.grid_cells.specs.Numbers.{IsWithin}
+use Rattle.lists.specs.Numbers.{IsWithin}
 use Rattle.array_text.specs.Numbers.{digit_of, digits_from, layout_number, cell_number, stored, positive_cell, cell_of}
 use Rattle.array_text.proofs.Leading.{number_up_to-some, positive_word}
 

@@ -1,7 +1,8 @@
 -- The numbers that words write.
+-- Used in this crate alone.
 use Rattle.std.specs.Prelude.{ℕ, ◌+◌, ◌-◌, ◌*◌, ◌==◌, ◌&&◌, nat_le, List, [], ◌∷◌, length, ℤ, pos, neg_ℤ, Option, Some, None, option_map, option_and_then, if◌then◌else◌, bytes_eq, codes}
-use Rattle.grid_cells.specs.Placing.{empty_cell}
-use Rattle.grid_cells.specs.declared.cell.Cell.{Cell}
+use Rattle.cells.specs.Cells.{empty_cell}
+use Rattle.cells.specs.declared.cell.Cell.{Cell}
 
 -- what a digit counts
 abbrev pub digit_of : ℕ → Option ℕ

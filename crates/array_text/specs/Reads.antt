@@ -1,10 +1,9 @@
 -- What reading answers: what the walk gives, or want of memory.
+-- Used in this crate alone.
 use Rattle.std.specs.Prelude.{◌≡◌, ℕ, List, Option, Result, Ok, Err, option_map, ⊤}
-use Rattle.grid_cells.specs.LayoutParts.{LayoutParts}
 use Rattle.array_text.specs.declared.fault.TextFault.{TextFault}
 use Rattle.array_text.specs.declared.fault.TextFault.TheVariants.{Refused, NoMemory}
 use Rattle.array_text.specs.declared.fault.TextRefusal.{TextRefusal}
-use Rattle.array_text.specs.declared.layout.Numbers.{Numbers}
 use Rattle.array_text.specs.Walk.{Walked, Rest}
 use Rattle.array_text.specs.Words.{words, first_word, behind_word}
 
@@ -26,7 +25,3 @@ rest_of next bytes = record { next = next; words = words bytes }
 -- the first word as a form reads it, and the bytes behind it
 abbrev pub leading : {X : Type 0} → (List ℕ → Option X) → List ℕ → Option (X × List ℕ)
 leading form bytes = option_map (λ x. (x, behind_word bytes)) (form (first_word bytes))
-
--- the numbers of a layout as its parts
-abbrev pub parts_of : Numbers → LayoutParts
-parts_of n = record { rank = n.rank; extents = n.extents; chunk = n.chunk; levels = n.levels.count; blocks = n.levels.blocks }

@@ -1,12 +1,14 @@
 -- The walk over the words of a text, in order, each step giving what it read or the refusal that ends the walk.
+-- Used by `search_run`, and in this crate.
 use Rattle.std.specs.Prelude.{ℕ, ◌+◌, ◌^◌, zero, suc, nat_lt, Bool, true, false, List, [], ◌∷◌, ◌++◌, length, replicate, Option, Some, None, Result, Ok, Err, if◌then◌else◌, bytes_eq, codes, slice_set, ⊤}
 use Rattle.std.specs.Option.{option_map_or}
-use Rattle.grid_cells.specs.LayoutParts.{LayoutParts}
-use Rattle.grid_cells.specs.Numbers.{product}
-use Rattle.grid_cells.specs.Rules.{first_broken, layout_rules, is_between}
-use Rattle.grid_cells.specs.declared.cell.Cell.{Cell}
-use Rattle.grid_cells.specs.declared.refusal.LayoutRefusal.{LayoutRefusal}
-use Rattle.grid_cells.specs.declared.refusal.LayoutRefusal.TheVariants.{Rank}
+use Rattle.layouts.specs.declared.numbers.LayoutNumbers.{LayoutNumbers}
+use Rattle.lists.specs.Numbers.{product}
+use Rattle.lists.specs.Rules.{first_broken}
+use Rattle.layouts.specs.Rules.{layout_rules, is_between}
+use Rattle.cells.specs.declared.cell.Cell.{Cell}
+use Rattle.layouts.specs.declared.refusal.LayoutRefusal.{LayoutRefusal}
+use Rattle.layouts.specs.declared.refusal.LayoutRefusal.TheVariants.{Rank}
 use Rattle.array_text.specs.declared.fault.TextRefusal.{TextRefusal}
 use Rattle.array_text.specs.declared.fault.TextRefusal.TheVariants.{TooLong, Word, Missing, Extra, Layout}
 use Rattle.array_text.specs.Numbers.{layout_number, cell_of}
@@ -97,7 +99,7 @@ rank_from rest =
     rank_checked rank >>= (λ _. Ok (rank, rest))))
 
 -- the numbers of a layout, up to the word `cells`
-unfoldable pub layout_from : Rest → Walked (LayoutParts × Rest)
+unfoldable pub layout_from : Rest → Walked (LayoutNumbers × Rest)
 layout_from rest =
     rank_from rest >>= (λ (rank, rest).
     lengths (codes "extent") rank rest >>= (λ (extents, rest).
@@ -123,7 +125,7 @@ end_from n [] = Ok tt
 end_from n (w ∷ ws) = Err (Extra n)
 
 -- a layout's cells, and nothing behind them
-unfoldable pub array_from : LayoutParts → Rest → Walked (LayoutParts × List Cell)
+unfoldable pub array_from : LayoutNumbers → Rest → Walked (LayoutNumbers × List Cell)
 array_from layout rest =
     unless_broken (first_broken (layout_rules layout)) >>= (λ _.
     cells_from (product layout.extents) [] rest >>= (λ (cells, rest).
@@ -133,9 +135,9 @@ array_from layout rest =
 -- ---- the whole text
 
 -- the layout and the cells that these words state
-unfoldable pub read_words : List (List ℕ) → Walked (LayoutParts × List Cell)
+unfoldable pub read_words : List (List ℕ) → Walked (LayoutNumbers × List Cell)
 read_words ws = layout_from (record { next = 1; words = ws }) >>= (λ (layout, rest). array_from layout rest)
 
 -- the layout and the cells that a text states, which has at most 2^30 bytes
-unfoldable pub stated_array : List ℕ → Walked (LayoutParts × List Cell)
+unfoldable pub stated_array : List ℕ → Walked (LayoutNumbers × List Cell)
 stated_array bytes = if nat_lt (2 ^ 30) (length bytes) then Err (TooLong (length bytes)) else read_words (words bytes)

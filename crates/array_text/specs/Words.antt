@@ -1,4 +1,5 @@
 -- The words of a text.
+-- Used by `search_run`, and in this crate.
 use Rattle.std.specs.Prelude.{◌≡◌, ℕ, ◌==◌, ◌||◌, Bool, true, false, List, [], ◌∷◌, filter, All, if◌then◌else◌}
 use Rattle.std.specs.List.{slice_split}
 

@@ -1,4 +1,5 @@
 //! Words at the front of bytes.
+//! Used in this crate by `read`, `text` and `word`.
 ghost use Rattle.std.specs.Prelude.{◌≡◌, ◌+◌, ◌<◌, ◌≤◌, length};
 ghost use Rattle.array_text.specs.Words as words;
 

@@ -1,11 +1,12 @@
 //! Why an array text is not read.
+//! Used in this crate by `cells`, `layout`, `read` and `text`, and by `search_run`.
 ghost use Rattle.std.specs.Prelude.{◌≡◌};
 ghost use Rattle.array_text.specs.declared.fault.TextFault.TheVariants.{Refused};
 
-use grid_cells::LayoutRefusal;
+use layouts::LayoutRefusal;
 
 /// Why the words of a text do not state an array: the first fault on the way through them, which
-/// `docs/ARRAY-TEXT.md` states. Words count from 1. Source: own.
+/// `docs/ARRAY-TEXT.md` states. Words count from 1.
 #[derive(Clone, Copy, Debug, PartialEq, Eq)]
 pub enum TextRefusal {
     /// The text has too many bytes; none of them was looked at.
@@ -20,7 +21,7 @@ pub enum TextRefusal {
     Layout(LayoutRefusal),
 }
 
-/// Why no array was read. Source: own.
+/// Why no array was read.
 #[derive(Clone, Copy, Debug, PartialEq, Eq)]
 pub enum TextFault {
     /// The text shows it.

@@ -1,37 +1,38 @@
 //! What the words of a text are, and what the digits of a number are as a word.
+//! No code calls them.
 ghost use Rattle.std.specs.Prelude.{◌≡◌, ℕ, ℤ, ◌<◌, List, [], ◌∷◌, ◌++◌, true};
 ghost use Rattle.std.specs.Fmt.{decimal, signed_decimal};
-ghost use Rattle.grid_cells.specs.Numbers.{IsWithin};
+ghost use Rattle.lists.specs.Numbers.{IsWithin};
 ghost use Rattle.array_text.specs.Numbers.{layout_number, cell_of, stored};
 ghost use Rattle.array_text.specs.Words.{is_blank, words, IsWord};
 
-/// No bytes have no words. Source: own.
+/// No bytes have no words.
 pub fn nothing_has_no_words()
     ensures { words [] ≡ [] }
 {}
 
-/// A blank in front adds no word. Source: own.
+/// A blank in front adds no word.
 pub fn a_blank_adds_no_word()
     ensures { (b : ℕ) (bytes : List ℕ) → is_blank b ≡ true → words (b ∷ bytes) ≡ words bytes }
 {}
 
-/// A word goes up to the first blank. Source: own.
+/// A word goes up to the first blank.
 pub fn a_word_goes_up_to_a_blank()
     ensures { (word : List ℕ) (b : ℕ) (bytes : List ℕ) → IsWord word → is_blank b ≡ true
         → words (word ++ b ∷ bytes) ≡ word ∷ words bytes }
 {}
 
-/// Where no blank follows, it goes up to the end. Source: own.
+/// Where no blank follows, it goes up to the end.
 pub fn a_word_goes_up_to_the_end()
     ensures { (word : List ℕ) → IsWord word → words word ≡ word ∷ [] }
 {}
 
-/// A number below 2^32 is what its digits write. Source: own.
+/// A number below 2^32 is what its digits write.
 pub fn digits_write_the_number()
     ensures { (n : ℕ) → n < 4294967296 → layout_number (decimal n) ≡ Some n }
 {}
 
-/// A cell's number is what its digits write, behind `-` where it is below 0. Source: own.
+/// A cell's number is what its digits write, behind `-` where it is below 0.
 pub fn digits_write_the_cell()
     ensures { (z : ℤ) → IsWithin z 2147483647 → cell_of (signed_decimal z) ≡ Some (stored z) }
 {}

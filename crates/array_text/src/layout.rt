@@ -1,25 +1,13 @@
 //! The layout of a text.
+//! Used in this crate by `read`.
 ghost use Rattle.std.specs.Prelude.{◌≡◌, ◌≤◌, ◌<◌, codes, IfOk};
-ghost use Rattle.array_text.specs.Reads.{Shows, rest_of, parts_of};
+ghost use Rattle.array_text.specs.Reads.{Shows, rest_of};
 ghost use Rattle.array_text.specs.Walk as walk;
 ghost use Rattle.array_text.specs.Walk.{no_blocks};
 
 use crate::TextRefusal;
 use crate::text::{Text, read_level_or_cells, read_number, read_word};
-use grid_cells::LayoutRefusal;
-
-/// The numbers of a layout, which may break its rules.
-#[derive(Drop)]
-pub(crate) struct Numbers {
-    /// The rank.
-    pub rank: u32,
-    /// The extents of the array.
-    pub extents: [u32; 3],
-    /// The extents of a chunk.
-    pub chunk: [u32; 3],
-    /// The levels of blocks.
-    pub levels: Levels,
-}
+use layouts::{LayoutNumbers, LayoutRefusal};
 
 /// How many levels there are, and the block extents of each.
 #[derive(Clone, Copy)]
@@ -116,18 +104,20 @@ fn read_rank(text: Text<'_>) -> Result<(u32, Text<'_>), TextRefusal>
 
 /// Reads the numbers of a layout, up to the word `cells`.
 #[tactic(auto, unfolding(crate::specs::Walk::layout_from))]
-pub(crate) fn read_layout(text: Text<'_>) -> Result<(Numbers, Text<'_>), TextRefusal>
-    ensures { Shows (λ r. (parts_of r.0, rest_of r.1.next r.1.bytes.now)) (walk.layout_from (rest_of text.entry.next text.entry.bytes.now)) result }
+pub(crate) fn read_layout(text: Text<'_>) -> Result<(LayoutNumbers, Text<'_>), TextRefusal>
+    ensures { Shows (λ r. (r.0, rest_of r.1.next r.1.bytes.now)) (walk.layout_from (rest_of text.entry.next text.entry.bytes.now)) result }
 {
     let (rank, text) = read_rank(text)?;
     let (extents, text) = read_lengths(text, b"extent", rank)?;
     let (chunk, text) = read_lengths(text, b"chunk", rank)?;
     let (levels, text) = read_levels(text, rank)?;
-    let numbers = Numbers {
+    let blocks = levels.blocks;
+    let numbers = LayoutNumbers {
         rank,
         extents,
         chunk,
-        levels,
+        levels: levels.count,
+        blocks,
     };
     Ok((numbers, text))
 }

@@ -4,10 +4,11 @@
 //! Definitions: `specs/Words` (the words of a text), `specs/Numbers` (the numbers and cells that words write),
 //! `specs/Walk` (the walk over the words: what a text states, or its first refusal) and `specs/Reads` (what
 //! `read_array_text` answers). `laws` says what the words of every text are, and that digits write their number.
+//! Stands on `layouts` and `cells`; used by `search_run`.
 #![tactic(auto)]
 
 mod bytes;
-mod cells;
+mod cell_words;
 mod fault;
 pub mod laws;
 mod layout;

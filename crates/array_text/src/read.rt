@@ -1,24 +1,26 @@
 //! Reading an array text.
+//! Used by `search_run`.
 ghost use Rattle.std.specs.Prelude.{◌≡◌, ◌≤◌, ◌^◌, length, IfOk};
-ghost use Rattle.grid_cells.specs.Numbers.{product};
-ghost use Rattle.grid_cells.specs.Rules.{first_broken, layout_rules};
-ghost use Rattle.array_text.specs.Reads.{Gives, Shows, rest_of, parts_of};
+ghost use Rattle.lists.specs.Numbers.{product};
+ghost use Rattle.lists.specs.Rules.{first_broken};
+ghost use Rattle.layouts.specs.Rules.{layout_rules};
+ghost use Rattle.array_text.specs.Reads.{Gives, Shows, rest_of};
 ghost use Rattle.array_text.specs.Words.{words};
 ghost use Rattle.array_text.specs.Walk as walk;
 
 use crate::bytes::skip_blanks;
-use crate::cells::read_cells;
-use crate::layout::{Numbers, read_layout};
+use crate::cell_words::read_cells;
+use crate::layout::read_layout;
 use crate::text::Text;
 use crate::{TextFault, TextRefusal};
-use grid_cells::{Cell, Layout};
+use cells::Cell;
+use layouts::{Layout, LayoutNumbers};
 use std::alloc::Global;
 
-/// How many bytes an array text has at most. Source: own.
+/// How many bytes an array text has at most.
 pub const MOST_TEXT_BYTES: usize = 1073741824;
 
 /// What an array text states: the layout, and a cell for each place of the array, in row-major order.
-/// Source: own.
 #[derive(Debug, Drop)]
 pub struct ArrayText {
     /// The layout.
@@ -28,19 +30,11 @@ pub struct ArrayText {
 }
 
 /// The layout with these numbers, or the first rule that they break.
-fn layout_of(numbers: &Numbers) -> Result<Layout, TextRefusal>
-    ensures walk { Shows (λ _. tt) (walk.unless_broken (first_broken (layout_rules (parts_of numbers.now)))) result }
-    ensures layout { IfOk result (λ l. l ≡ parts_of numbers.now) }
+fn layout_of(numbers: LayoutNumbers) -> Result<Layout, TextRefusal>
+    ensures walk { Shows (λ _. tt) (walk.unless_broken (first_broken (layout_rules numbers))) result }
+    ensures layout { IfOk result (λ l. l ≡ numbers) }
 {
-    let levels = numbers.levels;
-    let made = Layout::new(
-        numbers.rank,
-        numbers.extents,
-        numbers.chunk,
-        levels.count,
-        levels.blocks,
-    );
-    match made {
+    match Layout::new(numbers) {
         Ok(layout) => Ok(layout),
         Err(refusal) => Err(TextRefusal::Layout(refusal)),
     }
@@ -60,8 +54,8 @@ fn check_end(text: Text<'_>) -> Result<(), TextRefusal>
 
 /// Reads the cells of a layout, and the end behind them.
 #[tactic(auto, unfolding(crate::specs::Walk::array_from))]
-fn read_array(alloc: Global, numbers: &Numbers, text: Text<'_>) -> Result<ArrayText, TextFault>
-    ensures exactly { Gives (λ a. (a.layout, a.cells.items)) (walk.array_from (parts_of numbers.now) (rest_of text.entry.next text.entry.bytes.now)) result }
+fn read_array(alloc: Global, numbers: LayoutNumbers, text: Text<'_>) -> Result<ArrayText, TextFault>
+    ensures exactly { Gives (λ a. (a.layout, a.cells.items)) (walk.array_from numbers (rest_of text.entry.next text.entry.bytes.now)) result }
     ensures count { IfOk result (λ a. length a.cells.items ≡ product a.layout.extents) }
 {
     let layout = layout_of(numbers)?;
@@ -79,12 +73,12 @@ fn read_short_text(alloc: Global, bytes: &[u8]) -> Result<ArrayText, TextFault>
 {
     let text = Text { bytes, next: 1 };
     let (numbers, text) = read_layout(text)?;
-    read_array(alloc, &numbers, text)
+    read_array(alloc, numbers, text)
 }
 
 /// Reads the array that a text states: its layout and its cells in row-major order. `Refused` exactly where
 /// the text breaks its grammar or the layout its rules, with the first refusal on the way through the words;
-/// `NoMemory` where memory ran out. Source: own.
+/// `NoMemory` where memory ran out.
 #[tactic(auto, unfolding(crate::specs::Walk::stated_array))]
 pub fn read_array_text(alloc: Global, bytes: &[u8]) -> Result<ArrayText, TextFault>
     ensures exactly { Gives (λ a. (a.layout, a.cells.items)) (walk.stated_array bytes.now) result }

@@ -1,4 +1,5 @@
 //! A text as far as it is left, read word by word.
+//! Used in this crate by `cells`, `layout` and `read`.
 ghost use Rattle.std.specs.Prelude.{◌≡◌, ◌+◌, ◌<◌, ◌≤◌, length, IfOk};
 ghost use Rattle.array_text.specs.Numbers.{layout_number, cell_of};
 ghost use Rattle.array_text.specs.Reads.{Shows, rest_of};
@@ -7,7 +8,7 @@ ghost use Rattle.array_text.specs.Walk.{word, this_word, level_or_cells, dimensi
 use crate::TextRefusal;
 use crate::bytes::{skip_blanks, split_word};
 use crate::word::{leading_cell, leading_number};
-use grid_cells::Cell;
+use cells::Cell;
 
 /// What is left of a text.
 #[derive(Clone, Copy)]

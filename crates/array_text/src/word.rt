@@ -1,20 +1,18 @@
 //! The number or the cell that a word writes, read with the word.
+//! Used in this crate by `text`.
 ghost use Rattle.std.specs.Prelude.{◌≡◌, ◌+◌, ◌<◌, ◌≤◌, ◌∷◌, length, drop, option_map, IfSome, MatchOption};
 ghost use Rattle.array_text.specs.Words.{first_word, behind_word};
 ghost use Rattle.array_text.specs.Numbers.{digit_of, number_written, number_up_to, digits_from, cell_of, positive_cell};
 ghost use Rattle.array_text.specs.Reads.{leading};
 
 use crate::bytes::is_blank;
-use grid_cells::Cell;
+use cells::{Cell, EMPTY};
 
 /// How many digits a number has at most.
 const MOST_DIGITS: usize = 10;
 
 /// How far a cell's number is from 0 at most.
 const MOST_CELL: u32 = 2147483647;
-
-/// The empty cell.
-const EMPTY: Cell = Cell(i32::MIN);
 
 /// The number that the first word writes, where it does and is not above the most, and the bytes behind it.
 pub(crate) fn leading_number(bytes: &[u8], most: u32) -> Option<(u32, &[u8])>

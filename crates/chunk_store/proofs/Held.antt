@@ -1,4 +1,5 @@
 -- What cells were read, where the bytes are told.
+-- Used by the proofs of `Placed`, `Summed`, `loaded_chunk_holds_its_cells`, `read_piece` and `read_pieces`.
 use Rattle.std.proofs.Common.{◌≡◌, ℕ, ◌+◌, ◌*◌, ◌<◌, ◌≤◌, List, [], ◌∷◌, ◌++◌, length, take, drop, map, pos, Option, Some, None, refl, sym, ap, ◌∙◌, subst, arith, length-drop, length-append, get_or, append_assoc, append-nil, zero, suc}
 use Rattle.std.specs.List.{range_with_len}
 use Rattle.std.specs.Int.{cast_signed}
@@ -10,9 +11,9 @@ use borrow.Rule.Slice.PartMut.{put_mid, post_of}
 use Rattle.byteorder.specs.Endian.{little_number}
 use Rattle.byteorder.specs.Numbers.{little_from-append}
 use Rattle.source_io.specs.Told.{Holds}
-use Rattle.grid_cells.specs.declared.cell.Cell.{Cell}
-use Rattle.grid_cells.specs.LayoutParts.{LayoutParts}
-use Rattle.grid_cells.specs.Chunks.{chunk_cells, chunk_of, place_in_chunk}
+use Rattle.cells.specs.declared.cell.Cell.{Cell}
+use Rattle.layouts.specs.declared.numbers.LayoutNumbers.{LayoutNumbers}
+use Rattle.layouts.specs.Chunks.{chunk_cells, cell_chunk, cell_index}
 use Rattle.array_file.specs.Stored.{cell_at, cell_start, chunk_start}
 use Rattle.chunk_store.specs.Loaded.{cells_from, HoldsFrom, HoldsChunk}
 
@@ -120,7 +121,7 @@ pub holds_all : (told : Option (List ℕ)) (at n : ℕ) (cells : List Cell) → 
 holds_all told at n cells short h = subst (HoldsFrom told at) (take_all n cells short) h
 
 -- the cells of a chunk
-pub holds_chunk : (told : Option (List ℕ)) (l : LayoutParts) (n : ℕ) (cells : List Cell) → length cells ≡ chunk_cells l → HoldsFrom told (chunk_start l n) cells → HoldsChunk told l n cells
+pub holds_chunk : (told : Option (List ℕ)) (l : LayoutNumbers) (n : ℕ) (cells : List Cell) → length cells ≡ chunk_cells l → HoldsFrom told (chunk_start l n) cells → HoldsChunk told l n cells
 holds_chunk None l n cells long h = tt
 holds_chunk (Some all) l n cells long h = h ∙ ap (cells_from all (chunk_start l n)) long
 
@@ -129,8 +130,8 @@ pub get_or-cells_from : (all : List ℕ) (at n i : ℕ) (other : Cell) → i < n
 unfolding cells_from
 get_or-cells_from all at n i other below = get_or-map-range_with_len (λ k. cell_at all (at + 4 * k)) 0 n i i other below (omega arith)
 
-pub held_cell : (all : List ℕ) (l : LayoutParts) (k : ℕ) (cells : List Cell) (other : Cell) → HoldsChunk (Some all) l (chunk_of l k) cells
-    → place_in_chunk l k < chunk_cells l → get_or cells (place_in_chunk l k) other ≡ cell_at all (cell_start l k)
+pub held_cell : (all : List ℕ) (l : LayoutNumbers) (k : ℕ) (cells : List Cell) (other : Cell) → HoldsChunk (Some all) l (cell_chunk l k) cells
+    → cell_index l k < chunk_cells l → get_or cells (cell_index l k) other ≡ cell_at all (cell_start l k)
 held_cell all l k cells other held below =
-    ap (λ (xs : List Cell). get_or xs (place_in_chunk l k) other) held
-    ∙ get_or-cells_from all (chunk_start l (chunk_of l k)) (chunk_cells l) (place_in_chunk l k) other below
+    ap (λ (xs : List Cell). get_or xs (cell_index l k) other) held
+    ∙ get_or-cells_from all (chunk_start l (cell_chunk l k)) (chunk_cells l) (cell_index l k) other below

@@ -1,6 +1,7 @@
 -- What a frame shows.
+-- Used in this crate alone.
 use Rattle.std.specs.Prelude.{ℕ, List, Option}
-use Rattle.grid_cells.specs.declared.cell.Cell.{Cell}
+use Rattle.cells.specs.declared.cell.Cell.{Cell}
 
 -- the number of the chunk that a frame holds, where it holds one, and its cells
 pub record FrameParts : Type 0 where

@@ -1,3 +1,4 @@
+pub mod FirstChunks
 pub mod Frames
 pub mod Loaded
 pub mod Pieces

@@ -1,12 +1,13 @@
 -- The cells of a chunk of a file.
+-- Used in this crate alone.
 use Rattle.std.specs.Prelude.{◌≡◌, ℕ, ◌+◌, ◌*◌, List, ℤ, refl, length, map, Option, Some, None}
 use Rattle.std.specs.List.{range_with_len}
 use Rattle.std.specs.Coded.{Coded, code_by, coded_ℤ, coded_list, Coded-set, Unit-prop}
-use Rattle.grid_cells.specs.LayoutParts.{LayoutParts}
-use Rattle.grid_cells.specs.Numbers.{product}
-use Rattle.grid_cells.specs.Chunks.{chunk_cells}
-use Rattle.grid_cells.specs.Placing.{HasFirstChunks}
-use Rattle.grid_cells.specs.declared.cell.Cell.{Cell}
+use Rattle.layouts.specs.declared.numbers.LayoutNumbers.{LayoutNumbers}
+use Rattle.lists.specs.Numbers.{product}
+use Rattle.layouts.specs.Chunks.{chunk_cells}
+use Rattle.chunk_store.specs.FirstChunks.{HasFirstChunks}
+use Rattle.cells.specs.declared.cell.Cell.{Cell}
 use Rattle.array_file.specs.Stored.{cell_at, chunk_start}
 
 -- the n cells in the bytes from a place on
@@ -19,20 +20,20 @@ HoldsFrom None at cells = Unit {0}
 HoldsFrom (Some bytes) at cells = cells ≡ cells_from bytes at (length cells)
 
 -- the cells of chunk n of a file of this layout, in their order in the file, padding included
-abbrev pub chunk_of_file : LayoutParts → List ℕ → ℕ → List Cell
+abbrev pub chunk_of_file : LayoutNumbers → List ℕ → ℕ → List Cell
 chunk_of_file l bytes n = cells_from bytes (chunk_start l n) (chunk_cells l)
 
 -- these are the cells of chunk n, where the bytes are told
-abbrev pub HoldsChunk : Option (List ℕ) → LayoutParts → ℕ → List Cell → Type 0
+abbrev pub HoldsChunk : Option (List ℕ) → LayoutNumbers → ℕ → List Cell → Type 0
 HoldsChunk None l n cells = Unit {0}
 HoldsChunk (Some bytes) l n cells = cells ≡ chunk_of_file l bytes n
 
 -- the cell of chunk n of a file of this layout at place p of it
-abbrev pub cell_of_chunk : LayoutParts → List ℕ → ℕ → ℕ → Cell
+abbrev pub cell_of_chunk : LayoutNumbers → List ℕ → ℕ → ℕ → Cell
 cell_of_chunk l bytes n p = cell_at bytes (chunk_start l n + 4 * p)
 
 -- of the cells of the array, those of the first m chunks are the file's, where the bytes are told
-abbrev pub HoldsFirstChunks : Option (List ℕ) → LayoutParts → ℕ → List Cell → Type 0
+abbrev pub HoldsFirstChunks : Option (List ℕ) → LayoutNumbers → ℕ → List Cell → Type 0
 HoldsFirstChunks None l m cells = length cells ≡ product l.extents
 HoldsFirstChunks (Some bytes) l m cells = HasFirstChunks l (cell_of_chunk l bytes) m cells
 
@@ -41,6 +42,6 @@ abbrev pub coded_cell : Coded Cell
 coded_cell = code_by ℤ coded_ℤ (λ c. c.0) (λ z. record { 0 = z }) (λ c. refl)
 
 -- two proofs of `HoldsChunk` are one
-pub HoldsChunk-prop : (told : Option (List ℕ)) (l : LayoutParts) (n : ℕ) (cells : List Cell) → IsProp (HoldsChunk told l n cells)
+pub HoldsChunk-prop : (told : Option (List ℕ)) (l : LayoutNumbers) (n : ℕ) (cells : List Cell) → IsProp (HoldsChunk told l n cells)
 HoldsChunk-prop None l n cells = Unit-prop
 HoldsChunk-prop (Some bytes) l n cells = Coded-set (coded_list coded_cell) _ _

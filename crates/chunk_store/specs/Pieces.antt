@@ -1,7 +1,8 @@
 -- The reads that a load makes: places and lengths, where they are told.
+-- Used in this crate alone.
 use Rattle.std.specs.Prelude.{◌≡◌, ℕ, ◌+◌, ◌*◌, ◌<◌, ◌≤◌, List, [], ◌∷◌, ◌++◌, Option, Some, None}
-use Rattle.grid_cells.specs.LayoutParts.{LayoutParts}
-use Rattle.grid_cells.specs.Chunks.{chunk_cells}
+use Rattle.layouts.specs.declared.numbers.LayoutNumbers.{LayoutNumbers}
+use Rattle.layouts.specs.Chunks.{chunk_cells}
 use Rattle.array_file.specs.Stored.{chunk_start}
 
 -- reads of 1 to 4,096 bytes, each of which lies within the places from a up to b and begins behind the one before
@@ -15,5 +16,5 @@ AsksPieces None new a b = new ≡ None
 AsksPieces (Some old) new a b = (more : List (ℕ × ℕ)) × (new ≡ Some (old ++ more)) × Pieces a b more
 
 -- where chunk n ends
-abbrev pub chunk_end : LayoutParts → ℕ → ℕ
+abbrev pub chunk_end : LayoutNumbers → ℕ → ℕ
 chunk_end l n = chunk_start l n + 4 * chunk_cells l

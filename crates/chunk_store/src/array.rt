@@ -1,21 +1,24 @@
 //! All cells of an array file.
+//! Used in this crate by `summary`, and by `search_run`.
 ghost use Rattle.std.specs.Prelude.{◌≡◌, ◌+◌, ◌<◌, ◌≤◌, length, IfOk, OnOk, OnErr, IsErrOf};
 ghost use Rattle.source_io.specs.Told.{Rose};
-ghost use Rattle.grid_cells.specs.Numbers.{product};
-ghost use Rattle.grid_cells.specs.Chunks.{chunk_cells, chunk_count};
-ghost use Rattle.grid_cells.specs.Rules.{IsLayout};
-ghost use Rattle.grid_cells.specs.declared.layout.TheConstants.{MOST_CELLS};
+ghost use Rattle.lists.specs.Numbers.{product};
+ghost use Rattle.layouts.specs.Chunks.{chunk_cells, chunk_count};
+ghost use Rattle.layouts.specs.Rules.{IsLayout};
+ghost use Rattle.layouts.specs.declared.layout.TheConstants.{MOST_CELLS};
 ghost use Rattle.array_file.specs.Header.{file_size};
 ghost use Rattle.array_file.specs.Stored.{chunk_start, HoldsCells, MakesArray};
 ghost use Rattle.chunk_store.specs.Loaded.{HoldsFirstChunks};
 ghost use Rattle.chunk_store.specs.Pieces.{AsksPieces, chunk_end};
 
 use crate::{Frame, load};
-use grid_cells::{Cell, Layout};
+use cells::Cell;
+use chunk_copies::place_chunk;
+use layouts::Layout;
 use source_io::{ByteSource, Failed};
 use std::alloc::Global;
 
-/// Why no cells were read. Source: own.
+/// Why no cells were read.
 #[derive(Clone, Copy, Debug, PartialEq, Eq)]
 pub enum CellsFault {
     /// The source counted a fault.
@@ -48,7 +51,7 @@ fn add_chunk<S: ByteSource>(
     ensures same_name { S.opened_as src.new ≡ S.opened_as src.old }
 {
     load(layout, n, src, frame)?;
-    layout.place_chunk(n, frame.cells(), cells);
+    place_chunk(layout, n, frame.cells(), cells);
     Ok(())
 }
 
@@ -78,7 +81,7 @@ fn add_chunks<S: ByteSource>(
 
 /// Reads the cells of a file of this layout, in row-major order. Each chunk is loaded once, in order, into one
 /// frame. All memory is taken before the source is read. `Read` where the source counted a fault, and
-/// `NoMemory` where memory ran out. Source: own.
+/// `NoMemory` where memory ran out.
 pub fn read_cells<S: ByteSource>(
     alloc: Global,
     layout: &Layout,

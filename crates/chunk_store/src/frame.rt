@@ -1,14 +1,16 @@
 //! One chunk in memory.
+//! Used in this crate by `array`, `loading` and `summary`.
 ghost use Rattle.std.specs.Prelude.{◌≡◌, None, length, IfOk};
-ghost use Rattle.grid_cells.specs.Chunks.{chunk_cells};
+ghost use Rattle.layouts.specs.Chunks.{chunk_cells};
 
-use grid_cells::{Cell, Layout};
+use cells::Cell;
+use layouts::Layout;
 use source_io::NoMemory;
 use std::alloc::Global;
 use std::marker::Model;
 
 /// The cells of one chunk, and which chunk they are, where it holds one. Contracts see it as these two.
-/// It has as many cells as a chunk of its layout, padding included, and keeps them. Source: own.
+/// It has as many cells as a chunk of its layout, padding included, and keeps them.
 #[derive(Drop)]
 pub struct Frame {
     pub(crate) chunk: Option<u32>,
@@ -24,7 +26,7 @@ impl Model for Frame {
 }
 
 impl Frame {
-    /// A frame for chunks of this layout that holds no chunk. `NoMemory` where memory ran out. Source: own.
+    /// A frame for chunks of this layout that holds no chunk. `NoMemory` where memory ran out.
     pub fn new(alloc: Global, layout: &Layout) -> Result<Frame, NoMemory>
         ensures no_chunk { IfOk result (λ frame. frame.chunk ≡ None) }
         ensures cells { IfOk result (λ frame. length frame.cells ≡ chunk_cells layout.now) }
@@ -35,7 +37,7 @@ impl Frame {
         Ok(Frame { chunk: None, cells })
     }
 
-    /// The number of the chunk that it holds, or `None` where it holds none. Source: own.
+    /// The number of the chunk that it holds, or `None` where it holds none.
     pub fn chunk(&self) -> Option<u32>
         ensures { result ≡ self.now.chunk }
     {
@@ -43,7 +45,7 @@ impl Frame {
     }
 
     /// Its cells, in the order of the chunk in its file, padding included. They say nothing where it holds
-    /// no chunk. Source: own.
+    /// no chunk.
     pub fn cells(&self) -> &[Cell]
         ensures { result.now ≡ self.now.cells }
     {

@@ -1,18 +1,22 @@
-//! Chunks in memory: frames, and loading a chunk of an array file into one.
+//! Chunks in memory: frames, loading a chunk of an array file into one, all cells of a file, and their record.
 //! A loaded frame is its chunk, cell for cell as the told bytes have them; a load that fails leaves no
 //! chunk. Loading takes no memory, and asks for the bytes of the one chunk alone, in pieces that rise.
 //! Definitions: `specs/Frames` (what a frame shows), `specs/Loaded` (the cells of a chunk of a file),
-//! `specs/Summaries` (the record of all cells) and `specs/Pieces` (the reads that a load makes). `laws` says
-//! that loads one behind the other read in order.
+//! `specs/FirstChunks` (the cells of one chunk after the other), `specs/Summaries` (the record of all cells) and
+//! `specs/Pieces` (the reads that a load makes). `laws` says that loads one after the other read in order, and that
+//! the records of all chunks make that of the array.
+//! Stands on `array_file`, `chunk_copies`, `cell_fold`, `layouts`, `cells` and `source_io`; used by `search_run`.
 #![tactic(auto)]
 
-pub mod array;
-pub mod frame;
+mod array;
+mod frame;
 pub mod laws;
-pub mod loading;
-pub mod summary;
+mod loading;
+mod record;
+mod summary;
 
 pub use crate::array::{CellsFault, read_cells};
 pub use crate::frame::Frame;
 pub use crate::loading::load;
+pub use crate::record::chunk_record;
 pub use crate::summary::array_record;

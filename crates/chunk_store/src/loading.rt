@@ -1,16 +1,18 @@
 //! Loading a chunk of an array file.
+//! Used in this crate by `array` and `summary`.
 ghost use Rattle.std.specs.Prelude.{◌≡◌, ◌+◌, ◌*◌, ◌<◌, ◌≤◌, Some, None, length, OnOk, OnErr};
 ghost use Rattle.source_io.specs.Told.{Rose};
-ghost use Rattle.grid_cells.specs.Chunks.{chunk_cells, chunk_count};
+ghost use Rattle.layouts.specs.Chunks.{chunk_cells, chunk_count};
 ghost use Rattle.array_file.specs.Header.{file_size};
 ghost use Rattle.array_file.specs.Stored.{cell_at, chunk_start};
 ghost use Rattle.chunk_store.specs.Loaded.{cells_from, HoldsFrom, HoldsChunk};
 ghost use Rattle.chunk_store.specs.Pieces.{AsksPieces, chunk_end};
 
 use crate::Frame;
-use array_file::chunk_at;
+use array_file::chunk_offset;
 use byteorder::{ByteOrder, LittleEndian};
-use grid_cells::{Cell, Layout};
+use cells::Cell;
+use layouts::Layout;
 use source_io::{ByteSource, Failed, read_whole};
 
 /// How many cells a load reads at a time.
@@ -86,7 +88,7 @@ fn read_pieces<S: ByteSource>(src: &mut S, at: u64, cells: &mut [Cell]) -> Resul
 
 /// Loads chunk `n` into a frame of this layout. It reads the bytes of that chunk alone, piece by piece and
 /// each piece whole before the next, and takes no memory. `Failed` where the source counted a fault; the
-/// frame then holds no chunk. Source: own.
+/// frame then holds no chunk.
 pub fn load<S: ByteSource>(
     layout: &Layout,
     n: u32,
@@ -108,7 +110,7 @@ pub fn load<S: ByteSource>(
     ensures same_name { S.opened_as src.new ≡ S.opened_as src.old }
 {
     into.chunk = None;
-    read_pieces(src, chunk_at(layout, n), into.cells.as_mut_slice())?;
+    read_pieces(src, chunk_offset(layout, n), into.cells.as_mut_slice())?;
     into.chunk = Some(n);
     Ok(())
 }

@@ -1,27 +1,21 @@
 //! The record of all cells of an array file.
+//! Used by `search_run`.
 ghost use Rattle.std.specs.Prelude.{◌≡◌, ◌+◌, ◌<◌, ◌≤◌, length, IfOk, OnErr, IsErrOf};
 ghost use Rattle.source_io.specs.Told.{Rose};
-ghost use Rattle.grid_cells.specs.Numbers.{product};
-ghost use Rattle.grid_cells.specs.Chunks.{chunk_cells, chunk_count};
-ghost use Rattle.grid_cells.specs.Rules.{IsLayout};
+ghost use Rattle.lists.specs.Numbers.{product};
+ghost use Rattle.layouts.specs.Chunks.{chunk_cells, chunk_count};
+ghost use Rattle.layouts.specs.Rules.{IsLayout};
 ghost use Rattle.array_file.specs.Header.{file_size};
 ghost use Rattle.array_file.specs.Stored.{chunk_start};
 ghost use Rattle.chunk_store.specs.Pieces.{AsksPieces, chunk_end};
 ghost use Rattle.chunk_store.specs.Summaries.{IsRecordOfCells, IsRecordOfArray, SumsFirst};
 
 use crate::array::CellsFault;
-use crate::{Frame, load};
-use grid_cells::{Layout, Record, merge};
+use crate::{Frame, chunk_record, load};
+use cells::{NOTHING, Record, merge};
+use layouts::Layout;
 use source_io::{ByteSource, Failed};
 use std::alloc::Global;
-
-/// The record of no cells.
-const NO_CELLS: Record = Record {
-    least: 0,
-    greatest: 0,
-    sum: 0,
-    count: 0,
-};
 
 /// Loads chunk `n` into the frame and gives the record of the first `n + 1` chunks, from that of the first `n`.
 fn add_record<S: ByteSource>(
@@ -46,7 +40,7 @@ fn add_record<S: ByteSource>(
     ensures same_name { S.opened_as src.new ≡ S.opened_as src.old }
 {
     load(layout, n, src, frame)?;
-    let one = layout.chunk_record(n, frame.cells());
+    let one = chunk_record(layout, n, frame.cells());
     Ok(merge(all, one))
 }
 
@@ -68,7 +62,7 @@ fn add_records<S: ByteSource>(
     ensures same_len { S.len src.new ≡ S.len src.old }
     ensures same_name { S.opened_as src.new ≡ S.opened_as src.old }
 {
-    let mut all = NO_CELLS;
+    let mut all = NOTHING;
     for n in 0..layout.chunks() {
         all = add_record(layout, n, src, frame, all)?;
     }
@@ -77,7 +71,7 @@ fn add_records<S: ByteSource>(
 
 /// The record of all cells of a file of this layout. Each chunk is loaded once, in order, into one frame, so
 /// that no more than one chunk is in memory; its padding is not counted. All memory is taken before the source
-/// is read. `Read` where the source counted a fault, and `NoMemory` where memory ran out. Source: own.
+/// is read. `Read` where the source counted a fault, and `NoMemory` where memory ran out.
 pub fn array_record<S: ByteSource>(
     alloc: Global,
     layout: &Layout,

@@ -1,4 +1,4 @@
--- What `clap` finds in words by the rules of two texts.
+-- What `clap` finds in words by the rules of two texts. Used by the laws of `solo`, `verify` and `pack`.
 use Rattle.std.proofs.Common.{◌≡◌, ◌∙◌, Bool, true, false, refl, sym, ap, subst, List, [], ◌∷◌, Option, Some, None, inl, inr, codes}
 use Rattle.std.specs.Prelude.{option_map, if◌then◌else◌}
 use Rattle.clap.specs.Walk.{Held, Row, Text, finished, nothing_held, pushed, settled}
@@ -37,7 +37,7 @@ second_id false = codes "array"
 abbrev pub pair : Bool → Text → App
 pair b name = built (pair_app name (first_id b) (second_id b))
 
--- what is held behind the first text, and behind the second
+-- what is held after the first text, and after the second
 abbrev one_held : Bool → Text → Held
 one_held b f = pushed (first_id b) f nothing_held
 
@@ -116,7 +116,7 @@ third_text false t name f s w ws k =
     run_stops (pair false name) (at 3 t (two_held false name f s)) w ws kinds.UnknownArgument []
     (text_turn (pair false name).top 3 t (two_held false name f s) w k)
 
--- ---- behind `--`
+-- ---- after `--`
 
 after_two : (b : Bool) (name f s : Text) (ws : List Text)
     → run (pair b name) (at 3 true (two_held b name f s)) ws ≡ two_rows b name (Some (f ∷ s ∷ ws))
@@ -140,17 +140,17 @@ too_many b name f s w None = refl
 too_many b name f s w (Some ts) = refl
 
 -- the rows where one text or two came before
-abbrev behind_two : Bool → Text → Text → Text → Option (List Text) → Option (List Row)
-behind_two b name f s o = two_rows b name (option_map (λ r. f ∷ r) (option_map (λ r. s ∷ r) o))
+abbrev rows_after_two : Bool → Text → Text → Text → Option (List Text) → Option (List Row)
+rows_after_two b name f s o = two_rows b name (option_map (λ r. f ∷ r) (option_map (λ r. s ∷ r) o))
 
-abbrev behind_one : Bool → Text → Text → Option (List Text) → Option (List Row)
-behind_one b name f o = two_rows b name (option_map (λ r. f ∷ r) o)
+abbrev rows_after_one : Bool → Text → Text → Option (List Text) → Option (List Row)
+rows_after_one b name f o = two_rows b name (option_map (λ r. f ∷ r) o)
 
 abbrev ThirdGoal : Bool → Text → Text → Text → List Text → Text → Type 0
-ThirdGoal b name f s ws v = run (pair b name) (at 3 false (two_held b name f s)) (v ∷ ws) ≡ behind_two b name f s (texts_in (v ∷ ws))
+ThirdGoal b name f s ws v = run (pair b name) (at 3 false (two_held b name f s)) (v ∷ ws) ≡ rows_after_two b name f s (texts_in (v ∷ ws))
 
 abbrev SecondGoal : Bool → Text → Text → List Text → Text → Type 0
-SecondGoal b name f ws v = run (pair b name) (at 2 false (one_held b f)) (v ∷ ws) ≡ behind_one b name f (texts_in (v ∷ ws))
+SecondGoal b name f ws v = run (pair b name) (at 2 false (one_held b f)) (v ∷ ws) ≡ rows_after_one b name f (texts_in (v ∷ ws))
 
 abbrev FirstGoal : Bool → Text → List Text → Text → Type 0
 FirstGoal b name ws v = run (pair b name) (at 1 false nothing_held) (v ∷ ws) ≡ two_rows b name (texts_in (v ∷ ws))
@@ -164,9 +164,9 @@ from_two b name f s (w ∷ ws) u = go (kind w u.0)
     go : Kind w → ThirdGoal b name f s ws w
     go (inl e) = subst (ThirdGoal b name f s ws) (sym e) (run_divided (pair b name) 3 (two_held b name f s) ws ∙ after_two b name f s ws)
     go (inr (inl m)) =
-        third_text b false name f s w ws m.1 ∙ sym (ap (behind_two b name f s) (texts_in-text w ws m.1.0 m.0) ∙ too_many b name f s w (texts_in ws))
+        third_text b false name f s w ws m.1 ∙ sym (ap (rows_after_two b name f s) (texts_in-text w ws m.1.0 m.0) ∙ too_many b name f s w (texts_in ws))
     go (inr (inr m)) =
-        flag_stops (pair b name) 3 (two_held b name f s) w ws (no_flag b name) refl m.1 ∙ sym (ap (behind_two b name f s) (texts_in-option w ws m.1.0 m.0))
+        flag_stops (pair b name) 3 (two_held b name f s) w ws (no_flag b name) refl m.1 ∙ sym (ap (rows_after_two b name f s) (texts_in-option w ws m.1.0 m.0))
 
 from_one : (b : Bool) (name f : Text) (ws : List Text) → AreUtf8 ws
     → run (pair b name) (at 2 false (one_held b f)) ws ≡ two_rows b name (option_map (λ r. f ∷ r) (texts_in ws))
@@ -176,9 +176,9 @@ from_one b name f (w ∷ ws) u = go (kind w u.0)
     go : Kind w → SecondGoal b name f ws w
     go (inl e) = subst (SecondGoal b name f ws) (sym e) (run_divided (pair b name) 2 (one_held b f) ws ∙ after_one b name f ws)
     go (inr (inl m)) =
-        second_text b false name f w ws m.1 ∙ (from_two b name f w ws u.1 ∙ sym (ap (behind_one b name f) (texts_in-text w ws m.1.0 m.0)))
+        second_text b false name f w ws m.1 ∙ (from_two b name f w ws u.1 ∙ sym (ap (rows_after_one b name f) (texts_in-text w ws m.1.0 m.0)))
     go (inr (inr m)) =
-        flag_stops (pair b name) 2 (one_held b f) w ws (no_flag b name) refl m.1 ∙ sym (ap (behind_one b name f) (texts_in-option w ws m.1.0 m.0))
+        flag_stops (pair b name) 2 (one_held b f) w ws (no_flag b name) refl m.1 ∙ sym (ap (rows_after_one b name f) (texts_in-option w ws m.1.0 m.0))
 
 from_none : (b : Bool) (name : Text) (ws : List Text) → AreUtf8 ws
     → run (pair b name) (at 1 false nothing_held) ws ≡ two_rows b name (texts_in ws)

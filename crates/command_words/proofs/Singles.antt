@@ -1,4 +1,4 @@
--- What `clap` finds in words by the rules of one text, which is ARRAY.
+-- What `clap` finds in words by the rules of one text, which is ARRAY. Used by the law of `info`.
 use Rattle.std.proofs.Common.{◌≡◌, ◌∙◌, Bool, true, false, refl, sym, ap, subst, List, [], ◌∷◌, Option, Some, None, inl, inr, codes}
 use Rattle.std.specs.Prelude.{option_map}
 use Rattle.clap.specs.Walk.{Held, Row, Text, finished, nothing_held, pushed}
@@ -6,8 +6,8 @@ use Rattle.clap.specs.Simple.{App, built}
 use Rattle.clap.specs.declared.error.kind.ErrorKind.TheVariants as kinds
 use Rattle.clap.proofs.OnLiterals.{clap_on_literals}
 use Rattle.command_words.specs.Rows.{single_app}
-use Rattle.command_words.specs.Words.{Command, info, info_in, rows_in, text_of}
-use Rattle.command_words.specs.Texts.{AreUtf8, texts_in, of_one}
+use Rattle.command_words.specs.Words.{Command, info, info_in, rows_in, text_with_id}
+use Rattle.command_words.specs.Texts.{AreUtf8, texts_in, with_one_text}
 use Rattle.command_words.proofs.WordKinds.{Kind, kind}
 use Rattle.command_words.proofs.Walks.{HasNoFlag, IsText, at, flag_stops, run, run_divided, run_on, run_stops, text_turn, text_walked}
 use Rattle.command_words.proofs.Pairs.{texts_in-text, texts_in-option}
@@ -15,7 +15,7 @@ use Rattle.command_words.proofs.Pairs.{texts_in-text, texts_in-option}
 abbrev pub single : Text → App
 single name = built (single_app name (codes "array"))
 
--- what is held behind the text
+-- what is held after the text
 abbrev one_held : Text → Held
 one_held f = pushed (codes "array") f nothing_held
 
@@ -57,7 +57,7 @@ second_text : (t : Bool) (name f w : Text) (ws : List Text) → IsText t w → r
 second_text t name f w ws k =
     run_stops (single name) (at 2 t (one_held f)) w ws kinds.UnknownArgument [] (text_turn (single name).top 2 t (one_held f) w k)
 
--- ---- behind `--`
+-- ---- after `--`
 
 after_one : (name f : Text) (ws : List Text) → run (single name) (at 2 true (one_held f)) ws ≡ one_rows name (Some (f ∷ ws))
 after_one name f [] = one_end true name f
@@ -74,11 +74,11 @@ too_many name f w None = refl
 too_many name f w (Some ts) = refl
 
 -- the rows where one text came before
-abbrev behind_one : Text → Text → Option (List Text) → Option (List Row)
-behind_one name f o = one_rows name (option_map (λ r. f ∷ r) o)
+abbrev rows_after_one : Text → Text → Option (List Text) → Option (List Row)
+rows_after_one name f o = one_rows name (option_map (λ r. f ∷ r) o)
 
 abbrev SecondGoal : Text → Text → List Text → Text → Type 0
-SecondGoal name f ws v = run (single name) (at 2 false (one_held f)) (v ∷ ws) ≡ behind_one name f (texts_in (v ∷ ws))
+SecondGoal name f ws v = run (single name) (at 2 false (one_held f)) (v ∷ ws) ≡ rows_after_one name f (texts_in (v ∷ ws))
 
 abbrev FirstGoal : Text → List Text → Text → Type 0
 FirstGoal name ws v = run (single name) (at 1 false nothing_held) (v ∷ ws) ≡ one_rows name (texts_in (v ∷ ws))
@@ -91,9 +91,9 @@ from_one name f (w ∷ ws) u = go (kind w u.0)
     go : Kind w → SecondGoal name f ws w
     go (inl e) = subst (SecondGoal name f ws) (sym e) (run_divided (single name) 2 (one_held f) ws ∙ after_one name f ws)
     go (inr (inl m)) =
-        second_text false name f w ws m.1 ∙ sym (ap (behind_one name f) (texts_in-text w ws m.1.0 m.0) ∙ too_many name f w (texts_in ws))
+        second_text false name f w ws m.1 ∙ sym (ap (rows_after_one name f) (texts_in-text w ws m.1.0 m.0) ∙ too_many name f w (texts_in ws))
     go (inr (inr m)) =
-        flag_stops (single name) 2 (one_held f) w ws (no_flag name) refl m.1 ∙ sym (ap (behind_one name f) (texts_in-option w ws m.1.0 m.0))
+        flag_stops (single name) 2 (one_held f) w ws (no_flag name) refl m.1 ∙ sym (ap (rows_after_one name f) (texts_in-option w ws m.1.0 m.0))
 
 pub rows_in-single : (name : Text) (ws : List Text) → AreUtf8 ws → rows_in (single_app name (codes "array")) ws ≡ one_rows name (texts_in ws)
 rows_in-single name [] u = none_end false name
@@ -107,12 +107,12 @@ rows_in-single name (w ∷ ws) u = go (kind w u.0)
         flag_stops (single name) 1 nothing_held w ws (no_flag name) refl m.1 ∙ sym (ap (one_rows name) (texts_in-option w ws m.1.0 m.0))
 
 abbrev made_info : List Row → Command
-made_info rows = info (text_of (codes "array") rows)
+made_info rows = info (text_with_id (codes "array") rows)
 
-pub info_in-texts : (words : List Text) → AreUtf8 words → info_in words ≡ of_one info (texts_in words)
+pub info_in-texts : (words : List Text) → AreUtf8 words → info_in words ≡ with_one_text info (texts_in words)
 info_in-texts words u = ap (option_map made_info) (rows_in-single (codes "info") words u) ∙ last (texts_in words)
   where
-    last : (o : Option (List Text)) → option_map made_info (one_rows (codes "info") o) ≡ of_one info o
+    last : (o : Option (List Text)) → option_map made_info (one_rows (codes "info") o) ≡ with_one_text info o
     last None = refl
     last (Some []) = refl
     last (Some (f ∷ [])) = refl

@@ -77,7 +77,7 @@ run_stops a w word words k ks e =
     let end = fold (walked a.top.rules []) next words in
     λ i. unless_fault (or_else (or_else (e i) (walk_fault a.top [] next words)) (end_fault a end)) (finished a.top.rules end.held)
 
--- `--` makes texts of all words behind it
+-- `--` makes texts of all words after it
 pub run_divided : (a : App) (p : ℕ) (h : Held) (words : List Text) → run a (at p false h) ((45 ∷ 45 ∷ []) ∷ words) ≡ run a (at p true h) words
 unfolding walked walk_fault
 run_divided a p h words = refl

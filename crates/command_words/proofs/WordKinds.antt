@@ -35,12 +35,12 @@ first_char y ys u =
     first_of_chars (chars (y ∷ ys)) y ys
     (ap encodes (sym (chars_past_char (45 ∷ y ∷ ys) (y ∷ ys) 45 u refl)) ∙ encodes-chars (45 ∷ y ∷ ys) u)
 
--- behind two dashes
+-- after two dashes
 kind_dashes : (zs : Text) → IsUtf8 (45 ∷ 45 ∷ zs) → Kind (45 ∷ 45 ∷ zs)
 kind_dashes [] u = inl refl
 kind_dashes (z ∷ zs) u = inr (inr (refl, (refl, inl (_, refl))))
 
--- behind a dash
+-- after a dash
 kind_dash : (ys : Text) → IsUtf8 (45 ∷ ys) → Kind (45 ∷ ys)
 kind_dash [] u = inr (inl (refl, (refl, refl, refl)))
 kind_dash (y ∷ ys) u = go (eqb y 45) refl

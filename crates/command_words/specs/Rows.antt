@@ -1,4 +1,5 @@
 -- The rules by which `clap` reads the words after each command's name.
+-- Used to say which command words name.
 use Rattle.std.specs.Prelude.{true, Some, codes}
 use Rattle.clap.specs.Words.{App, Rule, Text, new_app, new_rule, with_rule}
 use Rattle.clap.specs.declared.builder.action.ArgAction.TheVariants.{Set}

@@ -1,4 +1,5 @@
 -- Which texts the words after a command's name are, read from left to right.
+-- Used by the laws alone.
 use Rattle.std.specs.Prelude.{⊤, Bool, not, ◌&&◌, nat_eq, List, [], ◌∷◌, Option, Some, None, option_map, if◌then◌else◌, codes}
 use Rattle.std.specs.List.{starts_with}
 use Rattle.std.specs.Str.{bytes_eq, IsUtf8}
@@ -21,19 +22,20 @@ texts_in (word ∷ words) =
     else if is_option word then None
     else option_map (λ texts. word ∷ texts) (texts_in words)
 
--- the command of one text, or of two, where there are exactly so many
-abbrev pub of_one : (Text → Command) → Option (List Text) → Option Command
-of_one make None = None
-of_one make (Some []) = None
-of_one make (Some (only ∷ [])) = Some (make only)
-of_one make (Some (only ∷ next ∷ rest)) = None
+-- the command of one text, where there is exactly one
+abbrev pub with_one_text : (Text → Command) → Option (List Text) → Option Command
+with_one_text make None = None
+with_one_text make (Some []) = None
+with_one_text make (Some (only ∷ [])) = Some (make only)
+with_one_text make (Some (only ∷ next ∷ rest)) = None
 
-abbrev pub of_two : (Text → Text → Command) → Option (List Text) → Option Command
-of_two make None = None
-of_two make (Some []) = None
-of_two make (Some (first ∷ [])) = None
-of_two make (Some (first ∷ second ∷ [])) = Some (make first second)
-of_two make (Some (first ∷ second ∷ next ∷ rest)) = None
+-- the command of two texts, where there are exactly two
+abbrev pub with_two_texts : (Text → Text → Command) → Option (List Text) → Option Command
+with_two_texts make None = None
+with_two_texts make (Some []) = None
+with_two_texts make (Some (first ∷ [])) = None
+with_two_texts make (Some (first ∷ second ∷ [])) = Some (make first second)
+with_two_texts make (Some (first ∷ second ∷ next ∷ rest)) = None
 
 -- each word is a text in UTF-8
 abbrev pub AreUtf8 : List Text → Type 0

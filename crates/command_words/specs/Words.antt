@@ -1,4 +1,5 @@
 -- What the words of a command line ask for.
+-- Used by `read_words` and by the top call of `search_run`.
 use Rattle.std.specs.Prelude.{Bool, false, List, [], ◌∷◌, map, Option, Some, None, option_map, unwrap_or, if◌then◌else◌, codes, string_bytes, String}
 use Rattle.std.specs.Global.{Global}
 use Rattle.std.specs.List.{list_any}
@@ -10,11 +11,11 @@ use Rattle.command_words.specs.Rows.{solo_app, verify_app, pack_app, info_app}
 pub data Command : Type 0 where
   -- print the solutions of a query on an array
   solo : (array query : Text) → Command
-  -- print them, always found by plain enumeration
+  -- print the same solutions, always found by plain enumeration
   verify : (array query : Text) → Command
   -- make the array file of an array text
   pack : (text array : Text) → Command
-  -- tell what an array file holds
+  -- print what an array file holds
   info : (array : Text) → Command
 
 -- the rows, where there is no kind of fault
@@ -27,29 +28,29 @@ abbrev pub rows_in : App → List Text → Option (List Row)
 rows_in app words = unless_fault (fault_of app words) (matches_of app words)
 
 -- the text with this id, which each required text has
-abbrev pub text_of : Text → List Row → Text
-text_of id rows = unwrap_or (first_of id rows) []
+abbrev pub text_with_id : Text → List Row → Text
+text_with_id id rows = unwrap_or (first_of id rows) []
 
--- the command that the words after a name ask for
+-- the command that the words after its name ask for
 abbrev pub solo_in : List Text → Option Command
-solo_in words = option_map (λ rows. solo (text_of (codes "array") rows) (text_of (codes "query") rows)) (rows_in solo_app words)
+solo_in words = option_map (λ rows. solo (text_with_id (codes "array") rows) (text_with_id (codes "query") rows)) (rows_in solo_app words)
 
 abbrev pub verify_in : List Text → Option Command
-verify_in words = option_map (λ rows. verify (text_of (codes "array") rows) (text_of (codes "query") rows)) (rows_in verify_app words)
+verify_in words = option_map (λ rows. verify (text_with_id (codes "array") rows) (text_with_id (codes "query") rows)) (rows_in verify_app words)
 
 abbrev pub pack_in : List Text → Option Command
-pack_in words = option_map (λ rows. pack (text_of (codes "text") rows) (text_of (codes "array") rows)) (rows_in pack_app words)
+pack_in words = option_map (λ rows. pack (text_with_id (codes "text") rows) (text_with_id (codes "array") rows)) (rows_in pack_app words)
 
 abbrev pub info_in : List Text → Option Command
-info_in words = option_map (λ rows. info (text_of (codes "array") rows)) (rows_in info_app words)
+info_in words = option_map (λ rows. info (text_with_id (codes "array") rows)) (rows_in info_app words)
 
 -- there is a command of this name
 abbrev pub is_command_name : Text → Bool
 is_command_name name = list_any (bytes_eq name) (codes "solo" ∷ codes "verify" ∷ codes "pack" ∷ codes "info" ∷ [])
 
 -- the command of a name and the words after it
-abbrev pub named_in : Text → List Text → Option Command
-named_in name words =
+abbrev pub command_named : Text → List Text → Option Command
+command_named name words =
     if bytes_eq name (codes "solo") then solo_in words
     else if bytes_eq name (codes "verify") then verify_in words
     else if bytes_eq name (codes "pack") then pack_in words
@@ -59,13 +60,13 @@ named_in name words =
 -- the command that the words name, where they are read
 abbrev pub command_in : List Text → Option Command
 command_in [] = None
-command_in (name ∷ words) = named_in name words
+command_in (name ∷ words) = command_named name words
 
 -- the first word is the name of a command
 abbrev pub names_command : List Text → Bool
 names_command [] = false
 names_command (name ∷ words) = is_command_name name
 
--- the words as the program has them
-abbrev pub texts_of : List (String Global) → List Text
-texts_of words = map string_bytes words
+-- the bytes of the words that the program got
+abbrev pub bytes_of_words : List (String Global) → List Text
+bytes_of_words words = map string_bytes words

@@ -1,14 +1,14 @@
-//! Why no command was read.
+//! Why no command was read, for the caller of `read_words`.
 ghost use Rattle.std.specs.Prelude.{◌≡◌, ◌↔◌};
 ghost use Rattle.command_words.specs.declared.fault.WordsFault.TheVariants.{NoMemory};
 
 use clap::error::ErrorKind;
 use std::alloc::AllocError;
 
-/// Why words gave no command. Source: own.
+/// Why words were not read as a command.
 #[derive(Clone, Copy, Debug, PartialEq, Eq)]
 pub enum WordsFault {
-    /// The words are none of a command.
+    /// The words name no command.
     Usage,
     /// Memory ran out.
     NoMemory,
@@ -22,8 +22,8 @@ impl From<AllocError> for WordsFault {
     }
 }
 
-/// What an error of `clap` comes to: every one but want of memory is a fault of the words.
-pub fn fault_by(kind: ErrorKind) -> WordsFault
+/// The fault of an error of `clap`: `NoMemory` if memory ran out, and `Usage` for every other error.
+pub fn fault_from_kind(kind: ErrorKind) -> WordsFault
     ensures { (result ≡ NoMemory) ↔ (kind ≡ ErrorKind.OutOfMemory) }
 {
     if matches!(kind, ErrorKind::OutOfMemory) {

@@ -1,48 +1,48 @@
-//! Reading the words of a command line.
+//! Reading the words of a command line, the first by its text and the others by `clap`.
 ghost use Rattle.std.specs.Prelude.{◌≡◌, Some, None, true, codes, IfOk, IsErrOf, IsTrue};
 ghost use Rattle.clap.specs.Words.{app_of, found_of, rows_of, is_simple_and_free};
 ghost use Rattle.command_words.specs.Rows.{solo_app, verify_app, pack_app, info_app};
 ghost use Rattle.command_words.specs.Words.{
   rows_in,
-  text_of,
+  text_with_id,
   solo_in,
   verify_in,
   pack_in,
   info_in,
   is_command_name,
-  named_in,
+  command_named,
   command_in,
   names_command,
-  texts_of,
+  bytes_of_words,
 };
-ghost use Rattle.command_words.specs.Commands.{named};
+ghost use Rattle.command_words.specs.Commands.{command_of};
 
 use crate::command::Command;
-use crate::fault::{WordsFault, fault_by};
+use crate::fault::{WordsFault, fault_from_kind};
 use crate::rows;
 use clap::ArgMatches;
 use std::alloc::Global;
 
-/// What `clap` finds in the words by the rules of a command.
+/// What `clap` finds in the words by the rules of a command. `Usage` where it finds a fault in them.
 fn matches_in<'a>(
     command: clap::Command<'a>,
     words: &'a [String],
 ) -> Result<ArgMatches<'a>, WordsFault>
     requires { is_simple_and_free (app_of command) ≡ true }
     ensures read { IfOk result (λ m.
-        rows_in (app_of command.entry) (texts_of words.entry.now) ≡ Some (rows_of (found_of m))) }
+        rows_in (app_of command.entry) (bytes_of_words words.entry.now) ≡ Some (rows_of (found_of m))) }
     ensures usage { IsErrOf result WordsFault.Usage →
-        rows_in (app_of command.entry) (texts_of words.entry.now) ≡ None }
+        rows_in (app_of command.entry) (bytes_of_words words.entry.now) ≡ None }
 {
     match command.try_get_matches_from(words) {
         Ok(matches) => Ok(matches),
-        Err(error) => Err(fault_by(error.kind())),
+        Err(error) => Err(fault_from_kind(error.kind())),
     }
 }
 
-/// The text with this id.
+/// The text with this id; empty where there is none.
 fn text<'a>(matches: &ArgMatches<'a>, id: &str) -> &'a str
-    ensures { result.now ≡ text_of id.now (rows_of (found_of matches.now)) }
+    ensures { result.now ≡ text_with_id id.now (rows_of (found_of matches.now)) }
 {
     match matches.get_str(id) {
         Some(text) => text,
@@ -52,8 +52,8 @@ fn text<'a>(matches: &ArgMatches<'a>, id: &str) -> &'a str
 
 /// The command that the words after `solo` ask for.
 fn solo<'a>(alloc: Global, words: &'a [String]) -> Result<Command<'a>, WordsFault>
-    ensures read { IfOk result (λ c. solo_in (texts_of words.entry.now) ≡ Some (named c)) }
-    ensures usage { IsErrOf result WordsFault.Usage → solo_in (texts_of words.entry.now) ≡ None }
+    ensures read { IfOk result (λ c. solo_in (bytes_of_words words.entry.now) ≡ Some (command_of c)) }
+    ensures usage { IsErrOf result WordsFault.Usage → solo_in (bytes_of_words words.entry.now) ≡ None }
 {
     let row = rows::solo(alloc)?;
     let matches = matches_in(row, words)?;
@@ -64,8 +64,8 @@ fn solo<'a>(alloc: Global, words: &'a [String]) -> Result<Command<'a>, WordsFaul
 
 /// The command that the words after `verify` ask for.
 fn verify<'a>(alloc: Global, words: &'a [String]) -> Result<Command<'a>, WordsFault>
-    ensures read { IfOk result (λ c. verify_in (texts_of words.entry.now) ≡ Some (named c)) }
-    ensures usage { IsErrOf result WordsFault.Usage → verify_in (texts_of words.entry.now) ≡ None }
+    ensures read { IfOk result (λ c. verify_in (bytes_of_words words.entry.now) ≡ Some (command_of c)) }
+    ensures usage { IsErrOf result WordsFault.Usage → verify_in (bytes_of_words words.entry.now) ≡ None }
 {
     let row = rows::verify(alloc)?;
     let matches = matches_in(row, words)?;
@@ -76,8 +76,8 @@ fn verify<'a>(alloc: Global, words: &'a [String]) -> Result<Command<'a>, WordsFa
 
 /// The command that the words after `pack` ask for.
 fn pack<'a>(alloc: Global, words: &'a [String]) -> Result<Command<'a>, WordsFault>
-    ensures read { IfOk result (λ c. pack_in (texts_of words.entry.now) ≡ Some (named c)) }
-    ensures usage { IsErrOf result WordsFault.Usage → pack_in (texts_of words.entry.now) ≡ None }
+    ensures read { IfOk result (λ c. pack_in (bytes_of_words words.entry.now) ≡ Some (command_of c)) }
+    ensures usage { IsErrOf result WordsFault.Usage → pack_in (bytes_of_words words.entry.now) ≡ None }
 {
     let row = rows::pack(alloc)?;
     let matches = matches_in(row, words)?;
@@ -88,8 +88,8 @@ fn pack<'a>(alloc: Global, words: &'a [String]) -> Result<Command<'a>, WordsFaul
 
 /// The command that the words after `info` ask for.
 fn info<'a>(alloc: Global, words: &'a [String]) -> Result<Command<'a>, WordsFault>
-    ensures read { IfOk result (λ c. info_in (texts_of words.entry.now) ≡ Some (named c)) }
-    ensures usage { IsErrOf result WordsFault.Usage → info_in (texts_of words.entry.now) ≡ None }
+    ensures read { IfOk result (λ c. info_in (bytes_of_words words.entry.now) ≡ Some (command_of c)) }
+    ensures usage { IsErrOf result WordsFault.Usage → info_in (bytes_of_words words.entry.now) ≡ None }
 {
     let row = rows::info(alloc)?;
     let matches = matches_in(row, words)?;
@@ -99,8 +99,8 @@ fn info<'a>(alloc: Global, words: &'a [String]) -> Result<Command<'a>, WordsFaul
 
 /// The command of a name and the words after it.
 fn read_named<'a>(alloc: Global, name: &str, words: &'a [String]) -> Result<Command<'a>, WordsFault>
-    ensures read { IfOk result (λ c. named_in name.now (texts_of words.entry.now) ≡ Some (named c)) }
-    ensures usage { IsErrOf result WordsFault.Usage → named_in name.now (texts_of words.entry.now) ≡ None }
+    ensures read { IfOk result (λ c. command_named name.now (bytes_of_words words.entry.now) ≡ Some (command_of c)) }
+    ensures usage { IsErrOf result WordsFault.Usage → command_named name.now (bytes_of_words words.entry.now) ≡ None }
     ensures memory { IsErrOf result WordsFault.NoMemory → IsTrue (is_command_name name.now) }
 {
     if name == "solo" {
@@ -120,13 +120,11 @@ fn read_named<'a>(alloc: Global, name: &str, words: &'a [String]) -> Result<Comm
 ///
 /// - `Usage`: there is no word, the first is no command's name, or `clap` finds a fault in the others by the rules
 ///   of that command.
-/// - `NoMemory`: memory ran out, behind a command's name.
-///
-/// Source: own.
+/// - `NoMemory`: memory ran out. The first word is then a command's name.
 pub fn read_words<'a>(alloc: Global, words: &'a [String]) -> Result<Command<'a>, WordsFault>
-    ensures read { IfOk result (λ c. command_in (texts_of words.entry.now) ≡ Some (named c)) }
-    ensures usage { IsErrOf result WordsFault.Usage → command_in (texts_of words.entry.now) ≡ None }
-    ensures memory { IsErrOf result WordsFault.NoMemory → IsTrue (names_command (texts_of words.entry.now)) }
+    ensures read { IfOk result (λ c. command_in (bytes_of_words words.entry.now) ≡ Some (command_of c)) }
+    ensures usage { IsErrOf result WordsFault.Usage → command_in (bytes_of_words words.entry.now) ≡ None }
+    ensures memory { IsErrOf result WordsFault.NoMemory → IsTrue (names_command (bytes_of_words words.entry.now)) }
 {
     match words.split_first() {
         Some((name, rest)) => read_named(alloc, name.as_str(), rest),

@@ -15,7 +15,7 @@ ghost use Rattle.command_words.specs.Rows.{
 use clap::{Arg, ArgAction, Command};
 use std::alloc::{AllocError, Global};
 
-/// A text that has to be given, by its place alone.
+/// The rule of a required positional argument.
 fn text<'a>(alloc: Global, id: &'a str) -> Arg<'a>
     ensures rule { rule_of result ≡ text_rule id.entry.now }
     ensures local { result.global ≡ false }
@@ -23,7 +23,7 @@ fn text<'a>(alloc: Global, id: &'a str) -> Arg<'a>
     Arg::new(alloc, id).required(true).action(ArgAction::Set)
 }
 
-/// A command that is given the words after its name, and has no flag for help.
+/// The rules of a command with no arguments, no program name before them, and no help flag.
 fn bare<'a>(alloc: Global, name: &'a str) -> Command<'a>
     ensures { app_of result ≡ bare_app name.entry.now }
 {
@@ -32,7 +32,7 @@ fn bare<'a>(alloc: Global, name: &'a str) -> Command<'a>
         .disable_help_flag(true)
 }
 
-/// A command of one text.
+/// The rules of a command with one text.
 fn single<'a>(alloc: Global, name: &'a str, only: &'a str) -> Result<Command<'a>, AllocError>
     ensures rules { IfOk result (λ c. app_of c ≡ single_app name.entry.now only.entry.now) }
     ensures simple { IfOk result (λ c. is_simple_and_free (app_of c) ≡ true) }
@@ -42,7 +42,7 @@ fn single<'a>(alloc: Global, name: &'a str, only: &'a str) -> Result<Command<'a>
     Ok(command)
 }
 
-/// A command of two texts.
+/// The rules of a command with two texts.
 fn pair<'a>(
     alloc: Global,
     name: &'a str,
@@ -57,7 +57,7 @@ fn pair<'a>(
     Ok(command)
 }
 
-/// `solo ARRAY QUERY`. Source: own.
+/// The rules of `solo ARRAY QUERY`.
 pub fn solo<'a>(alloc: Global) -> Result<Command<'a>, AllocError>
     ensures rules { IfOk result (λ c. app_of c ≡ solo_app) }
     ensures simple { IfOk result (λ c. is_simple_and_free (app_of c) ≡ true) }
@@ -65,7 +65,7 @@ pub fn solo<'a>(alloc: Global) -> Result<Command<'a>, AllocError>
     pair(alloc, "solo", "array", "query")
 }
 
-/// `verify ARRAY QUERY`. Source: own.
+/// The rules of `verify ARRAY QUERY`.
 pub fn verify<'a>(alloc: Global) -> Result<Command<'a>, AllocError>
     ensures rules { IfOk result (λ c. app_of c ≡ verify_app) }
     ensures simple { IfOk result (λ c. is_simple_and_free (app_of c) ≡ true) }
@@ -73,7 +73,7 @@ pub fn verify<'a>(alloc: Global) -> Result<Command<'a>, AllocError>
     pair(alloc, "verify", "array", "query")
 }
 
-/// `pack TEXT ARRAY`. Source: own.
+/// The rules of `pack TEXT ARRAY`.
 pub fn pack<'a>(alloc: Global) -> Result<Command<'a>, AllocError>
     ensures rules { IfOk result (λ c. app_of c ≡ pack_app) }
     ensures simple { IfOk result (λ c. is_simple_and_free (app_of c) ≡ true) }
@@ -81,7 +81,7 @@ pub fn pack<'a>(alloc: Global) -> Result<Command<'a>, AllocError>
     pair(alloc, "pack", "text", "array")
 }
 
-/// `info ARRAY`. Source: own.
+/// The rules of `info ARRAY`.
 pub fn info<'a>(alloc: Global) -> Result<Command<'a>, AllocError>
     ensures rules { IfOk result (λ c. app_of c ≡ info_app) }
     ensures simple { IfOk result (λ c. is_simple_and_free (app_of c) ≡ true) }

@@ -1,4 +1,5 @@
 -- Eight items of which the first n count: one of them changed, and one more.
+-- Used by `Point` and `VarBox`, which keep their items so.
 use Rattle.std.proofs.Common.{◌≡◌, ℕ, ◌<◌, ◌≤◌, ◌+◌, ◌-◌, List, ◌++◌, take, drop, set, replicate, ap, sym, ◌∙◌, length, arith}
 use Rattle.std.proofs.lemmas.List.{drop-set-lt, drop-drop, drop-replicate, length-set, length-take-le, length-append, length-replicate, drop_at}
 use Rattle.domains.specs.Padded.{IsPadded}
@@ -18,7 +19,7 @@ padded_more filler n items x below h =
       rest = drop-set-lt (n + 1) items n x (omega arith) ∙ sym (drop-drop 1 n items) ∙ ap (drop 1) h.rest ∙ drop-replicate 1 (8 - n) filler ∙ ap (λ k. replicate k filler) (omega arith);
     }
 
--- n items put at the front of eight fillers
+-- n items put in place of the first of eight fillers
 pub padded_fresh : {X : Type 0} (filler : X) (items new : List X) → new ≡ items → length items ≤ 8 → IsPadded filler (length items) (new ++ drop (length items) (replicate 8 filler))
 padded_fresh filler items new e few =
     let long : length new ≡ length items = ap length e in

@@ -1,7 +1,6 @@
 pub mod Values
 pub mod Points
-pub mod Boxes
+pub mod VarBoxes
 pub mod Splits
 pub mod Strips
 pub mod Padded
-pub mod SameItems

@@ -1,4 +1,5 @@
 -- Eight items of which the first n count, and the others are the same filler.
+-- Used by the models of `Point` and `VarBox`.
 use Rattle.std.specs.Prelude.{◌≡◌, ℕ, ◌-◌, ◌≤◌, List, ◌++◌, take, drop, length, replicate}
 use Rattle.std.proofs.Common.{sym, ap, ◌∙◌, arith}
 use Rattle.std.proofs.lemmas.List.{length-take-le, take-append-drop}
@@ -8,7 +9,7 @@ pub record IsPadded {X : Type 0} (filler : X) (n : ℕ) (items : List X) : Type 
   pub eight : length items ≡ 8
   pub rest : drop n items ≡ replicate (8 - n) filler
 
--- the first n items and fillers behind them are the eight again
+-- the first n items and fillers after them are the eight again
 pub padded_lem : {X A : Type 0} (filler : X) (f : List X → ℕ → A) (n : ℕ) (items : List X) → IsPadded filler n items
     → f (take n items ++ replicate (8 - length (take n items)) filler) (length (take n items)) ≡ f items n
 padded_lem filler f n items h =

@@ -1,4 +1,5 @@
 -- Points, their order, and the points of a list of domains.
+-- Used throughout, here and in every crate that speaks of solutions.
 use Rattle.std.specs.Prelude.{◌≡◌, ◌-◌, Contains, List, [], ◌∷◌, ◌++◌, length, replicate, map, flat_map, ℤ, pos, ◌+ℤ◌, ◌≤ℤ◌}
 use Rattle.std.specs.Ordering.{int_cmp, nat_cmp, ordering_then}
 use Rattle.std.specs.declared.cmp.Ordering.{Ordering}
@@ -34,11 +35,11 @@ IsInBox (d ∷ ds) (x ∷ p) = (d.lo ≤ℤ x) × (x ≤ℤ d.hi) × IsInBox ds 
 abbrev pub ComesBefore : Point → Point → Type 0
 ComesBefore p p' = slice_cmp int_cmp p p' ≡ Less
 
--- the values, and zeros behind them, eight in all
+-- the values, and zeros after them, eight in all
 abbrev pub with_zeros : Point → List ℤ
 with_zeros p = p ++ replicate (8 - length p) (pos 0)
 
--- how points compare: by the values with zeros behind them, the first variable first, and at a tie by how many variables they have
+-- how points compare: by the values with zeros after them, the first variable first, and at a tie by how many variables they have
 abbrev pub point_cmp : Point → Point → Ordering
 point_cmp p q = ordering_then (slice_cmp int_cmp (with_zeros p) (with_zeros q)) (nat_cmp (length p) (length q))
 

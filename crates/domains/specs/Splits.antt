@@ -1,10 +1,11 @@
--- The halves of a box, and the measure that falls in both.
+-- The halves of a box, and the measure that is smaller for both.
+-- Used by `widest`, `cut` and `split`, and by the laws on halves.
 use Rattle.std.specs.Prelude.{◌≡◌, ◌↔◌, ◌⊎◌, ◌++◌, All, take, Contains, ℕ, zero, suc, ◌+◌, ◌/◌, ◌==◌, max, List, [], ◌∷◌, ℤ, pos, ◌+ℤ◌, ◌-ℤ◌, unsigned_abs, slice_index_or, slice_set, if◌then◌else◌}
+use Rattle.lists.specs.Numbers.{HaveSameItems}
 use Rattle.domains.specs.declared.dom.Dom.{Dom}
 use Rattle.domains.specs.Values.{size_of}
 use Rattle.domains.specs.Points.{Point}
-use Rattle.domains.specs.Boxes.{points_in}
-use Rattle.domains.specs.SameItems.{SameItems}
+use Rattle.domains.specs.VarBoxes.{points_in}
 
 -- the most values that one of the domains has
 abbrev pub most_values : List Dom → ℕ
@@ -66,7 +67,7 @@ measure_of (d ∷ ds) = bits_for (size_of d) + measure_of ds
 
 -- each point of a box is in one of the two others and in one alone, and these have no further points
 pub record SharesOut (box first second : List Dom) : Type 0 where
-  pub same : SameItems (points_in box) (points_in first ++ points_in second)
+  pub same : HaveSameItems (points_in box) (points_in first ++ points_in second)
   pub each : (p : Point) → Contains (points_in box) p ↔ (Contains (points_in first) p ⊎ Contains (points_in second) p)
   pub one : (p : Point) → Contains (points_in first) p → Contains (points_in second) p → ⊥
 

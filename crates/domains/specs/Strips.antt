@@ -1,4 +1,5 @@
--- The strips of a box: parts of it along the first variable.
+-- The strips of a box: parts of it along the first variable, in order.
+-- Used by `strips`, `strip` and `keep_strip`, and by the law on strips.
 use Rattle.std.specs.Prelude.{ℕ, ◌+◌, ◌*◌, ◌/◌, min, List, [], ◌∷◌, map, pos, ◌+ℤ◌, ◌-ℤ◌}
 use Rattle.std.specs.List.{range_with_len}
 use Rattle.domains.specs.declared.dom.Dom.{Dom}

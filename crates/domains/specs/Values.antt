@@ -1,4 +1,5 @@
 -- The values of a domain.
+-- Used by `Dom`, by boxes, and by the rules that a query of `query_model` keeps.
 use Rattle.std.specs.Prelude.{ℕ, suc, zero, Bool, List, [], ◌∷◌, ℤ, pos, negsuc, ◌+ℤ◌, ◌-ℤ◌, ◌≤ℤ◌, int_le}
 use Rattle.domains.specs.declared.dom.Dom.{Dom}
 

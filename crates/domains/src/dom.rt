@@ -1,8 +1,8 @@
-//! Domains: the values that a variable may have.
+//! Domains: the values that a variable may have. Boxes are lists of them.
 ghost use Rattle.std.specs.Prelude.{◌≡◌, ◌<◌, ◌≤◌, ◌^◌, pos, ◌+ℤ◌};
 ghost use Rattle.domains.specs.Values.{size_of};
 
-/// The whole numbers from `lo` up to and including `hi`; none where `lo` is above `hi`. Source: own.
+/// The whole numbers from `lo` up to and including `hi`; none where `lo` is above `hi`.
 #[derive(Clone, Copy, Debug, PartialEq, Eq)]
 pub struct Dom {
     /// The least value.
@@ -12,7 +12,7 @@ pub struct Dom {
 }
 
 impl Dom {
-    /// How many values it has, 0 where `lo` is above `hi`. Source: own.
+    /// How many values it has, 0 where `lo` is above `hi`.
     pub fn count(&self) -> u64
         ensures size { result ≡ size_of self.now }
         ensures small { result ≤ 2 ^ 32 }
@@ -24,8 +24,8 @@ impl Dom {
         }
     }
 
-    /// The value at a place in it, from 0. Source: own.
-    #[tactic(auto, using(crate::proofs::Ranges::value_below))]
+    /// The value at a place in it, from 0.
+    #[tactic(auto, using(crate::proofs::Values::value_below))]
     pub fn value(&self, k: u64) -> i32
         requires { k < size_of self.now }
         ensures { result ≡ self.now.lo +ℤ pos k }

@@ -1,5 +1,5 @@
 //! What boxes, halves, strips and points are, in the words of the subject. Each law is the contract of a
-//! function that does nothing.
+//! function that does nothing. `query_model` calls those that its own laws and the box of a query need.
 
 ghost use Rattle.std.specs.Prelude.{◌≡◌, ◌↔◌, ◌^◌, ◌+◌, ◌<◌, ◌≤◌, ℕ, ℤ, List, length, true, AllPairs, Contains, flat_map, take, All};
 ghost use Rattle.std.specs.Ordering.{int_cmp};
@@ -8,46 +8,52 @@ ghost use Rattle.std.specs.Cmp.{IsTotalOrder};
 ghost use Rattle.std.specs.Cmp.Lexicographic.{slice_cmp};
 ghost use Rattle.domains.specs.declared.dom.Dom.{Dom as DomOf};
 ghost use Rattle.domains.specs.Points.{points_of, IsInBox, ComesBefore, AllComeBefore, point_cmp};
-ghost use Rattle.domains.specs.Boxes.{IsBox, points_in, size_product};
+ghost use Rattle.domains.specs.VarBoxes.{IsBox, points_in, size_product};
 ghost use Rattle.domains.specs.Splits.{SharesOut, HaveOneValueBefore, first_half, second_half, widest, measure_of, bits_for};
 ghost use Rattle.domains.specs.Strips.{strip_count, strip_of, strips_of};
 
 use crate::Point;
 
-/// The points of some domains are exactly those with each value within its domain. Source: own.
+/// The points of some domains are exactly those with each value within its domain.
 pub fn points_are_in_box()
     ensures domains { (ds : List DomOf) (p : List ℤ) → Contains (points_of ds) p ↔ IsInBox ds p }
     ensures boxes { (b : List DomOf) (p : List ℤ) → Contains (points_in b) p ↔ (IsInBox b p × (0 < length b)) }
 {}
 
 /// There are as many points as the product of the sizes of the domains. So a caller who knows that product
-/// knows whether `volume` may be called. Source: own.
+/// knows whether `volume` may be called.
 pub fn points_are_counted()
     ensures domains { (ds : List DomOf) → length (points_of ds) ≡ size_product ds }
     ensures boxes { (b : List DomOf) → 0 < length b → length (points_in b) ≡ size_product b }
 {}
 
-/// The points of a box rise strictly: each comes before all that stand behind it, in lexicographic order with
-/// the first variable first. So none stands there twice. Source: own.
+/// Each point of some domains, or of a box, has as many values as there are domains.
+pub fn points_have_all_values()
+    ensures domains { (ds : List DomOf) → All (λ p. length p ≡ length ds) (points_of ds) }
+    ensures boxes { (b : List DomOf) → All (λ p. length p ≡ length b) (points_in b) }
+{}
+
+/// The points of a box rise strictly: each comes before all later ones, in lexicographic order with the first
+/// variable first. So none is there twice.
 pub fn points_rise()
     ensures domains { (ds : List DomOf) → AllPairs ComesBefore (points_of ds) }
     ensures boxes { (b : List DomOf) → AllPairs ComesBefore (points_in b) }
 {}
 
-/// The halves of a box share no point and lose none. Source: own.
+/// The halves of a box share no point and lose none.
 pub fn halves_share_out()
     ensures { (b : List DomOf) → IsBox b → 1 < length (points_in b)
         → SharesOut b (first_half b) (second_half b) }
 {}
 
 /// All points of the first half come before all points of the second half exactly where the box is split on
-/// the first variable that has several values. Source: own.
+/// the first variable that has several values.
 pub fn halves_in_order()
     ensures { (b : List DomOf) → IsBox b → 1 < length (points_in b)
         → AllComeBefore (points_in (first_half b)) (points_in (second_half b)) ↔ HaveOneValueBefore b (widest b) }
 {}
 
-/// Each half of a box has a point, fewer points than the box, and a smaller measure. Source: own.
+/// Each half of a box has a point, fewer points than the box, and a smaller measure.
 pub fn halves_are_smaller()
     ensures boxes { (b : List DomOf) → IsBox b → 1 < length (points_in b)
         → IsBox (first_half b) × IsBox (second_half b) }
@@ -58,14 +64,14 @@ pub fn halves_are_smaller()
         → (measure_of (first_half b) < measure_of b) × (measure_of (second_half b) < measure_of b) }
 {}
 
-/// The measure counts for each variable the least k with at most 2^k values. Source: own.
+/// The measure counts for each variable the least k with at most 2^k values.
 pub fn measure_is_least()
     ensures enough { (n : ℕ) → n ≤ 2 ^ bits_for n }
     ensures least { (n k : ℕ) → n ≤ 2 ^ k → bits_for n ≤ k }
 {}
 
 /// The strips of a box one after the other have the points of the box in their order, so they share no point
-/// and lose none; each strip of a box that is not empty has a point. Source: own.
+/// and lose none; each strip of a box that is not empty has a point.
 pub fn strips_share_out()
     ensures points { (b : List DomOf) (asked : ℕ) → IsBox b → 0 < asked
         → flat_map points_in (strips_of b (strip_count b asked)) ≡ points_in b }
@@ -77,7 +83,7 @@ pub fn strips_share_out()
 
 /// Points are in a total order that agrees with `==`, which tells any two points apart. Of points of as many
 /// variables it is the lexicographic order of the values, the first variable first. A point of fewer variables
-/// is compared as if it had zeros behind its values, and comes first where that leaves a tie. Source: own.
+/// is compared as if zeros followed its values, and comes first where that leaves a tie.
 pub fn points_are_ordered()
     ensures rule { (p q : List ℤ) → ⟦<Point as Ord>⟧.cmp p q ≡ point_cmp p q }
     ensures total { IsTotalOrder ⟦<Point as Ord>⟧.cmp }

@@ -1,9 +1,9 @@
-//! Points: one value for each variable.
+//! Points: one value for each variable. Used for the solutions of queries and by the walk over a box.
 ghost use Rattle.std.specs.Prelude.{◌≡◌, ◌<◌, ◌++◌, ◌∷◌, [], length, pos, slice_index_or, slice_set};
 
 use std::marker::Model;
 
-/// A value for each of at most 8 variables, in order. Clauses see the list of the values. Source: own.
+/// A value for each of at most 8 variables, in order. Clauses see the list of the values.
 #[derive(Clone, Copy, Debug, PartialEq, Eq, PartialOrd, Ord)]
 pub struct Point {
     at: [i32; 8],
@@ -26,14 +26,14 @@ impl Model for Point {
 }
 
 impl Point {
-    /// The point of no variables. Source: own.
+    /// The point of no variables.
     pub fn empty() -> Point
         ensures { result ≡ [] }
     {
         Point { at: [0; 8], n: 0 }
     }
 
-    /// The point of one variable with this value. Source: own.
+    /// The point of one variable with this value.
     pub fn of(value: i32) -> Point
         ensures { result ≡ value ∷ [] }
     {
@@ -42,14 +42,14 @@ impl Point {
         point
     }
 
-    /// How many variables it has. Source: own.
+    /// How many variables it has.
     pub fn vars(&self) -> u8
         ensures { result ≡ length self.now }
     {
         self.n
     }
 
-    /// The value of the variable with this number, from 0. Source: own.
+    /// The value of the variable with this number, from 0.
     pub fn value(&self, var: u8) -> i32
         requires { var < length self.now }
         ensures { result ≡ slice_index_or self.now var (pos 0) }
@@ -57,7 +57,7 @@ impl Point {
         self.at[var as usize]
     }
 
-    /// Gives the variable with this number another value. Source: own.
+    /// Gives the variable with this number another value.
     pub fn put(&mut self, var: u8, value: i32)
         requires { var < length self.old }
         ensures { self.new ≡ slice_set self.old var value }
@@ -65,7 +65,7 @@ impl Point {
         self.at[var as usize] = value;
     }
 
-    /// Gives one more variable this value. Source: own.
+    /// Gives one more variable this value.
     pub fn push(&mut self, value: i32)
         requires { length self.old < 8 }
         ensures { self.new ≡ self.old ++ value ∷ [] }

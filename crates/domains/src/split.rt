@@ -1,6 +1,6 @@
-//! Halves of a box.
+//! The halves of a box, for a search that splits boxes.
 ghost use Rattle.std.specs.Prelude.{◌≡◌, ◌<◌, length, ◌<ℤ◌};
-ghost use Rattle.domains.specs.Boxes.{points_in};
+ghost use Rattle.domains.specs.VarBoxes.{points_in};
 ghost use Rattle.domains.specs.Splits.{widest, lower_half, upper_half, first_half, second_half};
 
 use crate::{Dom, VarBox};
@@ -26,7 +26,6 @@ fn halves(d: &Dom) -> (Dom, Dom)
 
 impl VarBox {
     /// The number, from 0, of the variable that it is split on: the first whose domain has the most values.
-    /// Source: own.
     pub fn widest(&self) -> u8
         requires { 0 < length self.now }
         ensures { result ≡ widest self.now }
@@ -45,7 +44,7 @@ impl VarBox {
     }
 
     /// Keeps its first half, and puts its second half into another box, whatever that held: `split` in place,
-    /// with one copy of the box. Source: own.
+    /// with one copy of the box.
     pub fn cut(&mut self, second: &mut VarBox)
         requires { 1 < length (points_in self.old) }
         ensures first { self.new ≡ first_half self.old }
@@ -59,7 +58,7 @@ impl VarBox {
     }
 
     /// Its first and its second half: of the first variable whose domain has the most values the one has the
-    /// values up to the middle, the other those above it. Source: own; splitting a domain in two is domain
+    /// values up to the middle, the other those above it. Splitting a domain in two is domain
     /// splitting (Apt, "Principles of Constraint Programming", 2003).
     pub fn split(&self) -> (VarBox, VarBox)
         requires { 1 < length (points_in self.now) }

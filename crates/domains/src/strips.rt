@@ -1,4 +1,4 @@
-//! Strips of a box.
+//! The strips of a box, for a search that shares a box out among workers.
 ghost use Rattle.std.specs.Prelude.{◌≡◌, ◌<◌, ◌≤◌};
 ghost use Rattle.domains.specs.Values.{HasValue, size_of};
 ghost use Rattle.domains.specs.Strips.{strip_count, strip_of, part_of, cut_at};
@@ -29,7 +29,7 @@ fn part(d: &Dom, i: u32, of: u32) -> Dom
 
 impl VarBox {
     /// How many strips it has where so many are asked for, one at least: no more than the first variable has
-    /// values, and one where the box is empty. Source: own.
+    /// values, and one where the box is empty.
     pub fn strips(&self, asked: u32) -> u32
         requires { 0 < asked }
         ensures count { result ≡ strip_count self.now asked }
@@ -49,7 +49,7 @@ impl VarBox {
         }
     }
 
-    /// Keeps one of its strips, by its number from 0, of as many as `strips` gives. Source: own.
+    /// Keeps one of its strips, by its number from 0, of as many as `strips` gives.
     pub fn keep_strip(&mut self, i: u32, of: u32)
         requires there { i < of }
         requires count { of ≡ strip_count self.old of }
@@ -61,7 +61,7 @@ impl VarBox {
     }
 
     /// One of its strips, by its number from 0, of as many as `strips` gives: of the first variable it has
-    /// almost equally many values as the other strips, and of the others all. Source: own.
+    /// almost equally many values as the other strips, and of the others all.
     pub fn strip(&self, i: u32, of: u32) -> VarBox
         requires there { i < of }
         requires count { of ≡ strip_count self.now of }

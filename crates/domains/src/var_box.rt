@@ -1,18 +1,18 @@
-//! Boxes: a domain for each variable.
+//! Boxes: a domain for each variable. Queries give their variables as a box.
 ghost use Rattle.std.specs.Prelude.{◌≡◌, ◌≤◌, ◌<◌, ◌↔◌, [], length, IsTrue, slice_get, IfSome};
 ghost use Rattle.std.specs.List.{list_all};
 ghost use Rattle.domains.specs.Values.{HasValue, has_value};
-ghost use Rattle.domains.specs.Boxes.{IsBox, box_from, box_with, points_in};
+ghost use Rattle.domains.specs.VarBoxes.{IsBox, box_from, box_with, points_in};
 ghost use Rattle.domains.specs.Points.{points_of};
 
 use crate::{Dom, Point};
 use std::marker::Model;
 
-/// What stands in a place that no variable has.
+/// The domain at an index that no variable has.
 const UNUSED: Dom = Dom { lo: 0, hi: 0 };
 
 /// A domain with a value for each of 1 to 8 variables, or the empty box, which has no variables and no
-/// points. Clauses see the list of the domains. It takes 68 bytes: pass it by reference. Source: own.
+/// points. Clauses see the list of the domains. It takes 68 bytes: pass it by reference.
 #[derive(Clone, Copy, Debug, PartialEq, Eq)]
 pub struct VarBox {
     doms: [Dom; 8],
@@ -23,7 +23,7 @@ impl Model for VarBox {
     ghost use Rattle.std.specs.Prelude.{◌≡◌, ◌-◌, ◌≤◌, ◌++◌, take, length, replicate, pos, List};
     ghost use Rattle.domains.specs.declared.dom.Dom.{Dom as DomOf};
     ghost use Rattle.domains.specs.Padded.{IsPadded, padded_lem};
-    ghost use Rattle.domains.specs.Boxes.{HaveValues};
+    ghost use Rattle.domains.specs.VarBoxes.{HaveValues};
     ghost use Rattle.domains.specs.Splits.{no_domain};
 
     ghost Value = { List DomOf };
@@ -37,7 +37,6 @@ impl Model for VarBox {
     ghost inverse_ok = { λ b h. padded_lem no_domain (λ doms vars. record { doms = doms; vars = vars }) b.vars b.doms h.0 };
 }
 
-/// Whether each domain has a value.
 fn have_values(doms: &[Dom]) -> bool
     ensures { result ≡ list_all has_value doms.now }
 {
@@ -45,7 +44,7 @@ fn have_values(doms: &[Dom]) -> bool
 }
 
 impl VarBox {
-    /// The box without points. Source: own.
+    /// The box without points.
     pub fn empty() -> VarBox
         ensures { result ≡ [] }
     {
@@ -56,7 +55,7 @@ impl VarBox {
     }
 
     /// The box of these 1 to 8 domains, one for each variable, in order. It is the empty box where one of them
-    /// has no value. Source: own.
+    /// has no value.
     pub fn new(doms: &[Dom]) -> VarBox
         requires some { 0 < length doms.now }
         requires few { length doms.now ≤ 8 }
@@ -74,7 +73,7 @@ impl VarBox {
         }
     }
 
-    /// Whether it has no points. Source: own.
+    /// Whether it has no points.
     pub fn is_empty(&self) -> bool
         ensures points { IsTrue result ↔ (points_in self.now ≡ []) }
         ensures domains { IsTrue result ↔ (self.now ≡ []) }
@@ -82,7 +81,7 @@ impl VarBox {
         self.vars == 0
     }
 
-    /// How many variables it has, 0 for the empty box. Source: own.
+    /// How many variables it has, 0 for the empty box.
     pub fn vars(&self) -> u8
         ensures count { result ≡ length self.now }
         ensures kept { IsBox self.now }
@@ -90,7 +89,7 @@ impl VarBox {
         self.vars
     }
 
-    /// The domains, one for each variable, in order; none for the empty box. Source: own.
+    /// The domains, one for each variable, in order; none for the empty box.
     pub fn doms(&self) -> &[Dom]
         ensures domains { result.now ≡ self.now }
         ensures kept { IsBox self.now }
@@ -99,7 +98,7 @@ impl VarBox {
     }
 
     /// The domain of the variable with this number, from 0. None exactly where there is no such variable, as
-    /// in the empty box. Source: own.
+    /// in the empty box.
     pub fn dom(&self, v: u8) -> Option<Dom>
         ensures domain { result ≡ slice_get self.now v }
         ensures some { IfSome result HasValue }
@@ -113,7 +112,7 @@ impl VarBox {
     }
 
     /// Gives the variable with this number, from 0, another domain, in place. The box is empty afterwards where
-    /// the domain has no value. Source: own.
+    /// the domain has no value.
     pub fn set(&mut self, v: u8, d: &Dom)
         requires { v < length self.old }
         ensures { self.new ≡ box_with self.old v d.now }
@@ -126,7 +125,7 @@ impl VarBox {
     }
 
     /// The box with this domain for the variable with this number, from 0. It is the empty box where the domain
-    /// has no value. Source: own.
+    /// has no value.
     pub fn with(&self, v: u8, d: Dom) -> VarBox
         requires { v < length self.now }
         ensures { result ≡ box_with self.now v d }

@@ -1,8 +1,8 @@
-//! How many points a box has, its lowest corner, and its one point.
+//! How many points a box has, its lowest corner, and its one point. `walk` begins at the lowest corner.
 ghost use Rattle.std.specs.Prelude.{◌≡◌, ◌≢◌, ◌<◌, ◌^◌, ◌∷◌, [], length, slice_get, IfSome, MatchOption};
 ghost use Rattle.std.specs.List.{list_all};
 ghost use Rattle.domains.specs.Values.{has_one_value};
-ghost use Rattle.domains.specs.Boxes.{points_in, lowest};
+ghost use Rattle.domains.specs.VarBoxes.{points_in, lowest};
 
 use crate::{Dom, Point, VarBox};
 
@@ -25,7 +25,7 @@ pub(crate) fn lowest_of(b: &VarBox) -> Point
 }
 
 impl VarBox {
-    /// How many points it has, where they are fewer than 2^128. Source: own.
+    /// How many points it has, where they are fewer than 2^128.
     pub fn volume(&self) -> u128
         requires { length (points_in self.now) < 2 ^ 128 }
         ensures { result ≡ length (points_in self.now) }
@@ -40,7 +40,7 @@ impl VarBox {
         points
     }
 
-    /// Its lowest corner, which is the first of its points. None exactly where it is empty. Source: own.
+    /// Its lowest corner, which is the first of its points. None exactly where it is empty.
     pub fn least(&self) -> Option<Point>
         ensures first { result ≡ slice_get (points_in self.now) 0 }
         ensures corner { IfSome result (λ p. p ≡ lowest self.now) }
@@ -51,7 +51,7 @@ impl VarBox {
         Some(lowest_of(self))
     }
 
-    /// Its point, where it has exactly one. None exactly where it has none or several. Source: own.
+    /// Its point, where it has exactly one. None exactly where it has none or several.
     pub fn point(&self) -> Option<Point>
         ensures { MatchOption result (length (points_in self.now) ≢ 1)
             (λ p. points_in self.now ≡ p ∷ []) }

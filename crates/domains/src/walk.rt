@@ -1,15 +1,15 @@
-//! The points of a box, one after the other.
+//! The points of a box, one after the other, for plain enumeration.
 ghost use Rattle.std.specs.Prelude.{◌≡◌, ◌∷◌, [], length, MatchBool};
 ghost use Rattle.std.specs.Iterator.{YieldsFirst, item_count};
 ghost use Rattle.domains.specs.Points.{points_after};
-ghost use Rattle.domains.specs.Boxes.{points_in};
+ghost use Rattle.domains.specs.VarBoxes.{points_in};
 
 use crate::volume::lowest_of;
 use crate::{Point, VarBox};
 use std::marker::Model;
 
 /// The points of a box that are still to come, in lexicographic order, the first variable first. Clauses see
-/// the list of them. Source: own.
+/// the list of them.
 #[derive(Drop)]
 pub struct Points {
     doms: VarBox,
@@ -19,7 +19,7 @@ pub struct Points {
 
 impl Model for Points {
     ghost use Rattle.std.specs.Prelude.{◌≡◌, List, ℤ, length};
-    ghost use Rattle.domains.specs.Boxes.{points_left};
+    ghost use Rattle.domains.specs.VarBoxes.{points_left};
 
     ghost Value = { List (List ℤ) };
 
@@ -51,7 +51,7 @@ fn advance(b: &VarBox, p: &mut Point) -> bool
 }
 
 impl VarBox {
-    /// Its points, in lexicographic order, the first variable first. Source: own.
+    /// Its points, in lexicographic order, the first variable first.
     pub fn points(&self) -> Points
         ensures { result ≡ points_in self.now }
     {

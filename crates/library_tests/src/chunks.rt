@@ -3,7 +3,7 @@ ghost use Rattle.std.specs.Prelude.{◌+◌, ◌≤◌};
 
 use array_file::file_size;
 use chunk_store::{CellsFault, Frame, array_record, load, read_cells};
-use grid_cells::{Layout, LayoutRefusal};
+use layouts::{Layout, LayoutNumbers, LayoutRefusal};
 use source_io::{ByteSource, MemShelf, MemSource, Plan, Shelf};
 use std::alloc::{AllocError, Global};
 use std::test::Fail;
@@ -11,7 +11,13 @@ use std::test::Fail;
 /// A line of 3,000 cells in two chunks, each of a whole piece and a shorter one.
 fn long_line() -> Result<Layout, LayoutRefusal> {
     let chunk = [1500, 1, 1];
-    Layout::new(1, [3000, 1, 1], chunk, 1, [chunk, [0; 3], [0; 3], [0; 3]])
+    Layout::new(LayoutNumbers {
+        rank: 1,
+        extents: [3000, 1, 1],
+        chunk,
+        levels: 1,
+        blocks: [chunk, [0; 3], [0; 3], [0; 3]],
+    })
 }
 
 /// A source of so many zeros in which this read fails, counted from 1, and each read gives at most `step` bytes.
@@ -30,10 +36,11 @@ fn opened(alloc: Global, size: usize, read: u64, step: usize) -> Result<MemSourc
 
 /// Whether chunk `n` was loaded.
 fn is_loaded(layout: &Layout, n: u32, src: &mut MemSource, frame: &mut Frame) -> bool {
-    n < layout.chunks()
-        && file_size(layout) <= src.size()
-        && frame.cells().len() == layout.chunk_cells() as usize
-        && load(layout, n, src, frame).is_ok()
+    let needed = file_size(layout);
+    if n >= layout.chunks() || src.size() < needed {
+        return false;
+    }
+    frame.cells().len() == layout.chunk_cells() as usize && load(layout, n, src, frame).is_ok()
 }
 
 fn sent<T: Send>(_: &T) {}
@@ -68,7 +75,13 @@ fn a_read_that_fails_leaves_no_chunk(rt: HostRuntime) -> Result<(), Fail> {
 #[test]
 fn a_source_that_gives_few_bytes_is_asked_for_the_rest(rt: HostRuntime) -> Result<(), Fail> {
     let chunk = [2, 2, 1];
-    let layout = Layout::new(2, [2, 3, 1], chunk, 1, [chunk, [0; 3], [0; 3], [0; 3]]);
+    let layout = Layout::new(LayoutNumbers {
+        rank: 2,
+        extents: [2, 3, 1],
+        chunk,
+        levels: 1,
+        blocks: [chunk, [0; 3], [0; 3], [0; 3]],
+    });
     let layout = layout.expect(&rt, "a layout");
     let mut frame = Frame::new(rt.alloc(), &layout)?;
     let mut src = opened(rt.alloc(), 128, 0, 7)?;

@@ -1,11 +1,12 @@
--- Averages by records.
+-- Averages by records, compared by products in 128 bits.
+-- Used by `aggregate_compares`.
 use Rattle.std.proofs.Common.{◌≡◌, ℕ, ◌^◌, ◌≤◌, ◌<◌, List, [], ◌∷◌, length, ℤ, pos, negsuc, ◌*ℤ◌, unsigned_abs, refl, sym, ap, ◌∙◌, arith, SFits, to_z, of_z, w64, lit<}
 use Rattle.std.specs.Int.{w128}
 use Rattle.std.proofs.lemmas.Int.{ints, fits_signed_mul, to_z-of_z}
 use Rattle.std.proofs.Math.Facts.{sfits_widen}
-use Rattle.grid_cells.specs.Numbers.{sum_of, count_of}
-use Rattle.grid_cells.specs.Records.{record_of}
-use Rattle.grid_cells.specs.declared.record.Record.{Record}
+use Rattle.lists.specs.Numbers.{sum_of, count_of}
+use Rattle.cells.specs.Records.{record_of}
+use Rattle.cells.specs.declared.record.Record.{Record}
 use Rattle.query_model.specs.declared.parts.Compare.{Compare}
 use Rattle.query_model.specs.declared.parts.Fraction.{Fraction}
 use Rattle.query_model.specs.Constraint.{compares, mean_compares}
@@ -36,7 +37,7 @@ compares_mean : (c : Compare) (numbers : List ℤ) (to : Fraction) → 0 < lengt
 compares_mean c [] to some = absurd (omega (arith, some))
 compares_mean c (x ∷ xs) to some = refl
 
--- a mean stands to a fraction as the products say
+-- a mean compares with a fraction as the products do
 pub mean_by_record : (c : Compare) (numbers : List ℤ) (to : Fraction) (r : Record) (x y : ℤ) → r ≡ record_of numbers → 0 < r.count → x ≡ to.q *ℤ r.sum → y ≡ to.p *ℤ pos r.count
     → compares c x y ≡ mean_compares c numbers to
 mean_by_record c numbers to r x y is some left right =

@@ -1,2 +1,2 @@
 pub mod Averages
-pub mod Listing
+pub mod Enumeration

@@ -1,15 +1,16 @@
-//! Whether a point is a solution.
+//! Whether a point is a solution. `list_plain` tests each point by this.
 ghost use Rattle.std.specs.Prelude.{◌≡◌, ◌≤◌, ◌^◌, ℤ, List, length};
 ghost use Rattle.std.specs.Ordering.{int_cmp};
-ghost use Rattle.grid_cells.specs.Cells.{array_of};
-ghost use Rattle.grid_cells.specs.Numbers.{product};
-ghost use Rattle.grid_cells.specs.Records.{record_of};
+ghost use Rattle.cells.specs.Cells.{array_of};
+ghost use Rattle.lists.specs.Numbers.{product};
+ghost use Rattle.cells.specs.Records.{record_of};
 ghost use Rattle.query_model.specs.Constraint as constraint;
 ghost use Rattle.query_model.specs.Constraint.{compares, is_solution};
 ghost use Rattle.query_model.specs.Rules.{IsConstraint};
 
+use cell_fold::region_record;
+use cells::{Cell, Record, Shape, is_proper};
 use domains::Point;
-use grid_cells::{Cell, Record, Shape, is_proper, region_record};
 use query_model::{Agg, Compare, Constraint, Fraction, Query};
 use std::cmp::Ordering;
 
@@ -26,7 +27,7 @@ fn holds_of(c: Compare, order: Ordering) -> bool
     }
 }
 
-/// Whether an aggregate of some numbers stands so to a fraction, by the record of the numbers. The numbers of
+/// Whether an aggregate of some numbers compares so with a fraction, by the record of the numbers. The numbers of
 /// a record and of a fraction fit 64 bits. The two sides of an average are up to 2^20 times 2^57 and 2^52 times
 /// 2^26, and so are computed in 128 bits.
 fn aggregate_compares(agg: Agg, c: Compare, r: &Record, to: &Fraction) -> bool
@@ -70,7 +71,7 @@ fn holds(query: &Query, shape: &Shape, cells: &[Cell], p: &Point, c: &Constraint
 }
 
 /// Whether a point is a solution of a query on an array of the query's rank, with this shape and these cells
-/// in row-major order: whether every constraint holds there. Source: own.
+/// in row-major order: whether every constraint holds there.
 pub fn holds_plain(query: &Query, shape: &Shape, cells: &[Cell], p: &Point) -> bool
     requires cells { length cells.now ≡ product shape.now.extents }
     requires few { length cells.now ≤ 2 ^ 26 }

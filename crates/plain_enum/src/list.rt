@@ -1,17 +1,17 @@
-//! All solutions.
+//! All solutions, by a test of each point of the box. `search_run` prints them.
 ghost use Rattle.std.specs.Prelude.{◌≡◌, ◌≤◌, ◌^◌, length, All, IfOk};
-ghost use Rattle.grid_cells.specs.Cells.{array_of};
-ghost use Rattle.grid_cells.specs.Numbers.{product};
+ghost use Rattle.cells.specs.Cells.{array_of};
+ghost use Rattle.lists.specs.Numbers.{product};
 ghost use Rattle.query_model.specs.Answer.{answer};
 
 use crate::holds_plain;
+use cells::{Cell, Shape};
 use domains::Point;
-use grid_cells::{Cell, Shape};
 use query_model::Query;
 use std::alloc::{AllocError, Global};
 
 /// The solutions of a query on an array of the query's rank, with this shape and these cells in row-major
-/// order, in lexicographic order. Its only error is want of memory. Source: own.
+/// order, in lexicographic order. Its only error is out of memory.
 pub fn list_plain(
     alloc: Global,
     query: &Query,

@@ -1,12 +1,13 @@
--- Comparisons of averages, and of what is not there.
+-- Comparisons of averages, of regions that are not proper, and of regions without present cells.
+-- Used by the laws on these.
 use Rattle.std.proofs.Common.{◌≡◌, ℕ, zero, suc, ◌+◌, ◌*◌, ◌≤◌, Bool, true, false, ◌&&◌, List, [], ◌∷◌, ℤ, pos, negsuc, neg_ℤ, ◌*ℤ◌, ◌≤ℤ◌, ◌<ℤ◌, int_le, int_lt, refl, sym, ap, ◌∙◌, arith}
 use Rattle.std.proofs.lemmas.Int.{ints, by_lt_z}
 use Rattle.std.proofs.Math.Nat.{mul-le-mul_left}
 use Rattle.std.proofs.Math.IntN.{*ℤ_comm, *ℤ-negsuc}
 use borrow.Author.Differences.{up, down}
-use Rattle.grid_cells.specs.Array.{Array, is_proper, present_cells}
-use Rattle.grid_cells.specs.Numbers.{sum_of, count_of}
-use Rattle.grid_cells.specs.declared.side.Side.{Side}
+use Rattle.cells.specs.Array.{Array, is_proper, present_cells}
+use Rattle.lists.specs.Numbers.{sum_of, count_of}
+use Rattle.cells.specs.declared.side.Side.{Side}
 use Rattle.query_model.specs.declared.parts.Agg.{Agg}
 use Rattle.query_model.specs.declared.parts.Agg.TheVariants.{Min, Max, Avg}
 use Rattle.query_model.specs.declared.parts.Compare.{Compare}
@@ -28,28 +29,28 @@ scale_lt k x y some h =
 
 -- ---- a product, k times as large
 
-times : (n a b : ℕ) → a ≡ b → n * a ≡ n * b
-times n a b e = ap (λ k. n * k) e
+mul-equal : (n a b : ℕ) → a ≡ b → n * a ≡ n * b
+mul-equal n a b e = ap (λ k. n * k) e
 
-scale_swap : (k n : ℕ) (x : ℤ) → pos k *ℤ (pos n *ℤ x) ≡ pos n *ℤ (pos k *ℤ x)
-scale_swap k n x =
+scale-scale : (k n : ℕ) (x : ℤ) → pos k *ℤ (pos n *ℤ x) ≡ pos n *ℤ (pos k *ℤ x)
+scale-scale k n x =
     let up_n : up (pos n *ℤ x) ≡ n * up x = omega (arith, ints) in
     let down_n : down (pos n *ℤ x) ≡ n * down x = omega (arith, ints) in
     let up_k : up (pos k *ℤ x) ≡ k * up x = omega (arith, ints) in
     let down_k : down (pos k *ℤ x) ≡ k * down x = omega (arith, ints) in
-    let a = times k _ _ up_n in let b = times k _ _ down_n in let c = times n _ _ up_k in let d = times n _ _ down_k in
+    let a = mul-equal k _ _ up_n in let b = mul-equal k _ _ down_n in let c = mul-equal n _ _ up_k in let d = mul-equal n _ _ down_k in
     omega (arith, ints)
 
 scale-neg_ℤ : (k : ℕ) (x : ℤ) → neg_ℤ (pos k *ℤ x) ≡ pos k *ℤ neg_ℤ x
 scale-neg_ℤ k (pos zero) = omega (arith, ints)
 scale-neg_ℤ k (pos (suc n)) = sym (*ℤ-negsuc (pos k) n)
-scale-neg_ℤ k (negsuc n) = ap neg_ℤ (*ℤ-negsuc (pos k) n) ∙ twice (pos k *ℤ pos (suc n))
+scale-neg_ℤ k (negsuc n) = ap neg_ℤ (*ℤ-negsuc (pos k) n) ∙ neg_ℤ-neg_ℤ (pos k *ℤ pos (suc n))
   where
-    twice : (x : ℤ) → neg_ℤ (neg_ℤ x) ≡ x
-    twice x = omega (arith, ints)
+    neg_ℤ-neg_ℤ : (x : ℤ) → neg_ℤ (neg_ℤ x) ≡ x
+    neg_ℤ-neg_ℤ x = omega (arith, ints)
 
 scale-pos : (k : ℕ) (x : ℤ) (n : ℕ) → (pos k *ℤ x) *ℤ pos n ≡ pos k *ℤ (x *ℤ pos n)
-scale-pos k x n = *ℤ_comm (pos k *ℤ x) (pos n) ∙ scale_swap n k x ∙ ap (λ z. pos k *ℤ z) (*ℤ_comm (pos n) x)
+scale-pos k x n = *ℤ_comm (pos k *ℤ x) (pos n) ∙ scale-scale n k x ∙ ap (λ z. pos k *ℤ z) (*ℤ_comm (pos n) x)
 
 scale-*ℤ : (k : ℕ) (x y : ℤ) → (pos k *ℤ x) *ℤ y ≡ pos k *ℤ (x *ℤ y)
 scale-*ℤ k x (pos n) = scale-pos k x n
@@ -103,13 +104,13 @@ average-scaled a sides c to k some = ap (λ b. is_proper a.extents sides && b) (
 pub improper_fails : (a : Array) (sides : List Side) (agg : Agg) (c : Compare) (to : Fraction) → is_proper a.extents sides ≡ false → aggregate_holds a sides agg c to ≡ false
 improper_fails a sides agg c to improper = ap (λ b. b && aggregate_compares agg c (present_cells a sides) to) improper
 
-never_and : (b : Bool) → b && false ≡ false
-never_and true = refl
-never_and false = refl
+and-false : (b : Bool) → b && false ≡ false
+and-false true = refl
+and-false false = refl
 
 fails_by : (a : Array) (sides : List Side) (agg : Agg) (c : Compare) (to : Fraction) → aggregate_compares agg c [] to ≡ false → present_cells a sides ≡ [] → aggregate_holds a sides agg c to ≡ false
 fails_by a sides agg c to fails none =
-    ap (λ numbers. is_proper a.extents sides && aggregate_compares agg c numbers to) none ∙ ap (λ b. is_proper a.extents sides && b) fails ∙ never_and (is_proper a.extents sides)
+    ap (λ numbers. is_proper a.extents sides && aggregate_compares agg c numbers to) none ∙ ap (λ b. is_proper a.extents sides && b) fails ∙ and-false (is_proper a.extents sides)
 
 pub undefined_fails : (a : Array) (sides : List Side) (c : Compare) (to : Fraction) → present_cells a sides ≡ []
     → (aggregate_holds a sides Min c to ≡ false) × (aggregate_holds a sides Max c to ≡ false) × (aggregate_holds a sides Avg c to ≡ false)

@@ -1,10 +1,11 @@
 -- Terms of expressions, and how large their sums get.
+-- Used by the values of terms and expressions.
 use Rattle.std.proofs.Common.{◌≡◌, ℕ, ◌+◌, ◌*◌, ◌^◌, ◌≤◌, ◌<◌, List, take, length, get_or, map, ℤ, ◌+ℤ◌, ◌*ℤ◌, unsigned_abs, sym, ap, ◌∙◌, arith, SFits, to_z, of_z, w64, w32, lit<}
 use Rattle.std.proofs.lemmas.Int.{ints, unsigned_abs-mul, fits_signed_mul, to_z-of_z}
 use Rattle.std.proofs.Math.Facts.{sfits_widen}
 use Rattle.std.proofs.Math.Nat.{mul-le-mul}
-use Rattle.grid_cells.specs.Numbers.{sum_of, IsWithin}
-use Rattle.grid_cells.proofs.Sums.{within_abs, abs_of_32_bits, sum_of-map_more}
+use Rattle.lists.specs.Numbers.{sum_of, IsWithin}
+use Rattle.lists.proofs.Sums.{within_abs, abs_of_32_bits, sum_of-map_more}
 
 -- a factor within 2^20 times a 32-bit number
 product_within : (f v : ℤ) → unsigned_abs f ≤ 2 ^ 20 → SFits w32 v → IsWithin (f *ℤ v) (2 ^ 51)

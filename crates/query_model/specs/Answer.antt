@@ -1,6 +1,7 @@
 -- The answer of a query on an array: its solutions, in order.
+-- Used by every search, and by the text of an answer.
 use Rattle.std.specs.Prelude.{List, map, filter}
-use Rattle.grid_cells.specs.Array.{Array}
+use Rattle.cells.specs.Array.{Array}
 use Rattle.domains.specs.declared.dom.Dom.{Dom}
 use Rattle.domains.specs.Points.{Point, points_of}
 use Rattle.query_model.specs.declared.query.Query.{Query}

@@ -1,6 +1,7 @@
 -- Expressions whose value fits 64 bits at every point.
+-- Used by the values of expressions, whose arithmetic is in 64 bits.
 use Rattle.std.specs.Prelude.{ℕ, ◌≤◌, ◌<◌, ◌^◌, unsigned_abs, All, take}
-use Rattle.grid_cells.specs.Numbers.{IsWithin}
+use Rattle.lists.specs.Numbers.{IsWithin}
 use Rattle.query_model.specs.declared.parts.Expr.{Expr}
 use Rattle.query_model.specs.declared.parts.Term.{Term}
 use Rattle.query_model.specs.declared.parts.Region.{Region}

@@ -1,10 +1,11 @@
 -- What it means that a constraint holds at a point, and that a point is a solution.
+-- Used by `specs/Answer`, and by whatever tests points.
 use Rattle.std.specs.Prelude.{ℕ, Bool, false, ◌&&◌, List, [], ◌∷◌, ℤ, pos, ◌*ℤ◌, int_le, int_lt, Option, Some, None, slice_get}
 use Rattle.std.specs.Option.{option_map_or}
 use Rattle.std.specs.List.{list_all}
-use Rattle.grid_cells.specs.Numbers.{count_of, sum_of, least_of, greatest_of}
-use Rattle.grid_cells.specs.Array.{Array, is_proper, present_cells}
-use Rattle.grid_cells.specs.declared.side.Side.{Side}
+use Rattle.lists.specs.Numbers.{count_of, sum_of, least_of, greatest_of}
+use Rattle.cells.specs.Array.{Array, is_proper, present_cells}
+use Rattle.cells.specs.declared.side.Side.{Side}
 use Rattle.query_model.specs.declared.parts.Fraction.{Fraction}
 use Rattle.query_model.specs.declared.parts.Compare.{Compare}
 use Rattle.query_model.specs.declared.parts.Compare.TheVariants.{Le, Lt, Ge, Gt, Eq}
@@ -16,7 +17,7 @@ use Rattle.query_model.specs.declared.query.Query.{Query}
 use Rattle.domains.specs.Points.{Point}
 use Rattle.query_model.specs.Value.{value_of, region_at}
 
--- x stands so to y
+-- x compares so with y
 abbrev pub compares : Compare → ℤ → ℤ → Bool
 compares Le x y = int_le x y
 compares Lt x y = int_lt x y
@@ -24,17 +25,17 @@ compares Ge x y = int_le y x
 compares Gt x y = int_lt y x
 compares Eq x y = int_le x y && int_le y x
 
--- there is an x, and it stands so to y
+-- there is an x, and it compares so with y
 abbrev pub compares_where_defined : Compare → Option ℤ → ℤ → Bool
 compares_where_defined c None y = false
 compares_where_defined c (Some x) y = compares c x y
 
--- there are numbers, and their mean stands so to p / q: their sum times q to p times their count
+-- there are numbers, and their mean compares so with p / q: their sum times q to p times their count
 abbrev pub mean_compares : Compare → List ℤ → Fraction → Bool
 mean_compares c [] to = false
 mean_compares c (x ∷ xs) to = compares c (to.q *ℤ sum_of (x ∷ xs)) (to.p *ℤ count_of (x ∷ xs))
 
--- the aggregate of these numbers stands so to the fraction, which is a whole number but for `avg`
+-- the aggregate of these numbers compares so with the fraction, which is a whole number but for `avg`
 abbrev pub aggregate_compares : Agg → Compare → List ℤ → Fraction → Bool
 aggregate_compares Sum c numbers to = compares c (sum_of numbers) to.p
 aggregate_compares Count c numbers to = compares c (count_of numbers) to.p
@@ -42,7 +43,7 @@ aggregate_compares Min c numbers to = compares_where_defined c (least_of numbers
 aggregate_compares Max c numbers to = compares_where_defined c (greatest_of numbers) to.p
 aggregate_compares Avg c numbers to = mean_compares c numbers to
 
--- the region is proper, and the aggregate of its present cells stands so
+-- the region is proper, and the aggregate of its present cells compares so
 abbrev pub aggregate_holds : Array → List Side → Agg → Compare → Fraction → Bool
 aggregate_holds a sides agg c to = is_proper a.extents sides && aggregate_compares agg c (present_cells a sides) to
 

@@ -1,4 +1,5 @@
 -- The form of names.
+-- Used by `Name::from_bytes`, by the rules of a query and by the reader of query files.
 use Rattle.std.specs.Prelude.{◌≡◌, ℕ, ◌-◌, ◌≤◌, Bool, true, take, drop, ◌&&◌, ◌||◌, ◌==◌, nat_le, List, ◌++◌, length, replicate, slice_index}
 use Rattle.std.specs.List.{list_all}
 use Rattle.query_model.specs.declared.parts.Name.{Name}
@@ -15,12 +16,12 @@ continues_name b = begins_name b || (nat_le 48 b && nat_le b 57)
 abbrev pub is_name : List ℕ → Bool
 is_name text = nat_le 1 (length text) && nat_le (length text) 32 && begins_name (slice_index text 0) && list_all continues_name text
 
--- 1 to 32 bytes of such a form, and zeros behind them
+-- 1 to 32 bytes of such a form, and zeros after them
 pub record IsName (name : Name) : Type 0 where
   pub short : name.len ≤ 32
   pub form : is_name (take name.len name.bytes) ≡ true
   pub padded : drop name.len name.bytes ≡ replicate (32 - name.len) 0
 
--- the name with these bytes, and zeros behind them
+-- the name with these bytes, and zeros after them
 abbrev pub name_of : List ℕ → Name
 name_of text = record { len = length text; bytes = text ++ replicate (32 - length text) 0 }

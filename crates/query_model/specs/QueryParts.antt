@@ -1,4 +1,5 @@
 -- A query as its parts.
+-- Used as the model of `Query`.
 use Rattle.std.specs.Prelude.{ℕ, List}
 use Rattle.query_model.specs.declared.parts.Variable.{Variable}
 use Rattle.query_model.specs.declared.parts.Region.{Region}

@@ -1,7 +1,8 @@
 -- The rules that a query keeps.
+-- Used as the invariant of `Query`, and by the reader of query files.
 use Rattle.std.specs.Prelude.{◌≡◌, ◌≢◌, ℕ, ◌-◌, ◌^◌, ◌<◌, ◌≤◌, ℤ, pos, ◌≤ℤ◌, length, map, take, drop, replicate, unsigned_abs, All, AllPairs}
 use Rattle.domains.specs.Values.{size_of}
-use Rattle.grid_cells.specs.Numbers.{IsWithin, product}
+use Rattle.lists.specs.Numbers.{IsWithin, product}
 use Rattle.query_model.specs.declared.parts.Agg.{Agg}
 use Rattle.query_model.specs.declared.parts.Agg.TheVariants.{Sum, Min, Max, Count, Avg}
 use Rattle.query_model.specs.declared.parts.Constraint.{Constraint}
@@ -81,7 +82,7 @@ pub record IsQuery (q : QueryParts) : Type 0 where
   pub few_variables : length q.variables ≤ 8
   pub variables : All IsVariable q.variables
   pub names : AllPairs (λ (v w : Variable). v.name ≢ w.name) q.variables
-  pub few_assignments : product (map (λ (v : Variable). size_of (record { lo = v.from; hi = v.to })) q.variables) ≤ 2 ^ 62
+  pub few_points : product (map (λ (v : Variable). size_of (record { lo = v.from; hi = v.to })) q.variables) ≤ 2 ^ 62
   pub few_regions : length q.regions ≤ 16
   pub regions : All (IsRegion q.rank (length q.variables)) q.regions
   pub region_names : AllPairs (λ (r s : Region). r.name ≢ s.name) q.regions

@@ -1,15 +1,16 @@
 -- The printed text of an answer.
+-- Used by what prints answers.
 use Rattle.std.specs.Prelude.{ℕ, List, [], ◌∷◌, ◌++◌, take, flat_map, ℤ, codes}
 use Rattle.std.specs.Fmt.{signed_decimal}
 use Rattle.std.specs.List.{join_with_byte}
-use Rattle.grid_cells.specs.Array.{Array}
+use Rattle.cells.specs.Array.{Array}
 use Rattle.query_model.specs.declared.parts.Name.{Name}
 use Rattle.query_model.specs.declared.parts.Variable.{Variable}
 use Rattle.domains.specs.Points.{Point}
 use Rattle.query_model.specs.declared.query.Query.{Query}
 use Rattle.query_model.specs.Answer.{answer}
 
--- the bytes of a name
+-- the bytes of a name, without the zeros after them
 abbrev pub name_bytes : Name → List ℕ
 name_bytes n = take n.len n.bytes
 

@@ -1,7 +1,8 @@
 -- What expressions and regions are at a point.
+-- Used by `specs/Constraint` and by the values of expressions.
 use Rattle.std.specs.Prelude.{List, take, map, zip, ℤ, pos, ◌+ℤ◌, ◌*ℤ◌, slice_index_or}
-use Rattle.grid_cells.specs.Numbers.{sum_of}
-use Rattle.grid_cells.specs.declared.side.Side.{Side}
+use Rattle.lists.specs.Numbers.{sum_of}
+use Rattle.cells.specs.declared.side.Side.{Side}
 use Rattle.domains.specs.Points.{Point}
 use Rattle.query_model.specs.declared.parts.Expr.{Expr}
 use Rattle.query_model.specs.declared.parts.Term.{Term}
@@ -15,7 +16,7 @@ term_value p t = t.factor *ℤ slice_index_or p t.var (pos 0)
 abbrev pub value_of : Expr → Point → ℤ
 value_of e p = e.constant +ℤ sum_of (map (term_value p) (take e.count e.terms))
 
--- the places from `at` up to but not including `at + length`
+-- the indices from `at` up to but not including `at + length`
 abbrev pub side_at : Expr → Expr → Point → Side
 side_at at length p = record { from = value_of at p; to = value_of at p +ℤ value_of length p }
 

@@ -1,15 +1,15 @@
-//! What expressions and regions are at a point.
+//! What expressions and regions are at a point. `plain_enum` tests constraints by these values.
 ghost use Rattle.std.specs.Prelude.{◌≡◌, ◌≤◌, ◌^◌, length};
 ghost use Rattle.query_model.specs.Value.{value_of, term_value, side_at, region_at};
 ghost use Rattle.query_model.specs.Bounded.{IsBounded, IsBoundedTerm, IsBoundedRegion};
-ghost use Rattle.grid_cells.specs.Numbers.{IsWithin};
+ghost use Rattle.lists.specs.Numbers.{IsWithin};
 
 use crate::{Expr, Region, Term};
+use cells::Side;
 use domains::Point;
-use grid_cells::Side;
 
 impl Term {
-    /// The factor times the value of its variable. Source: own.
+    /// The factor times the value of its variable.
     pub fn value(&self, p: &Point) -> i64
         requires { IsBoundedTerm (length p.now) self.now }
         ensures value { result ≡ term_value p.now self.now }
@@ -20,7 +20,7 @@ impl Term {
 }
 
 impl Expr {
-    /// The constant plus each factor times the value of its variable. Source: own.
+    /// The constant plus each factor times the value of its variable.
     pub fn value(&self, p: &Point) -> i64
         requires { IsBounded (length p.now) self.now }
         ensures value { result ≡ value_of self.now p.now }
@@ -48,7 +48,7 @@ fn side(at: &Expr, extent: &Expr, p: &Point) -> Side
 }
 
 impl Region {
-    /// Its side in each dimension at a point. Source: own.
+    /// Its side in each dimension at a point.
     pub fn sides(&self, p: &Point) -> [Side; 3]
         requires { IsBoundedRegion (length p.now) self.now }
         ensures { result ≡ region_at self.now p.now }

@@ -1,15 +1,19 @@
-//! Queries as data within their limits, the values of their expressions, and what they mean.
-//! A `Query` keeps every rule of a query, so that whoever holds one need not test it.
-//! Definitions: `specs/Rules` (the rules that a query keeps), `specs/Value` (expressions and regions at a point),
-//! `specs/Constraint` (when a constraint holds), `specs/Answer` (the solutions, in order), `specs/Text` (their lines).
-//! Above them stand laws in `src/laws.rt`. Nothing here takes memory.
+//! Queries as data within their limits, the values of their expressions, and what they mean. A `Query` keeps every
+//! rule of a query, so that whoever holds one need not test it. Nothing here takes memory.
+//!
+//! Definitions: `specs/QueryParts` and `specs/Rules` (the rules that a query keeps), `specs/NameForm`, `specs/Value`
+//! and `specs/Bounded` (expressions and regions at a point), `specs/Constraint` (when a constraint holds),
+//! `specs/Answer` (the solutions, in order), `specs/Text` (their lines). `laws` says what follows from them.
+//!
+//! It stands on `domains` (boxes and points), `cells` (arrays), `grids` and `lists`. `query_text`, `plain_enum` and
+//! `search_run` use it.
 #![tactic(auto)]
 
-pub mod expression;
+mod expression;
 pub mod laws;
-pub mod name;
-pub mod parts;
-pub mod query;
+mod name;
+mod parts;
+mod query;
 
 pub use crate::parts::{Agg, Compare, Constraint, Expr, Fraction, Name, Region, Term, Variable};
 pub use crate::query::Query;

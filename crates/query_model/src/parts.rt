@@ -1,7 +1,7 @@
-//! The parts of queries, as plain data: clauses see them as their numbers and lists.
+//! The parts of queries, as plain data: clauses see them as their numbers and lists. `query_text` makes them.
 
-/// A name of 1 to 32 bytes, an ASCII letter or `_` and then letters, digits and `_`. The bytes behind
-/// its length are 0. Source: own.
+/// A name of 1 to 32 bytes, an ASCII letter or `_` and then letters, digits and `_`. The bytes after
+/// its length are 0.
 #[derive(Clone, Copy, Debug, PartialEq, Eq)]
 pub struct Name {
     /// How many of the bytes the name has.
@@ -10,27 +10,25 @@ pub struct Name {
     pub bytes: [u8; 32],
 }
 
-/// A factor times the value of a variable. Source: own.
+/// A factor times the value of a variable.
 #[derive(Clone, Copy, Debug, PartialEq, Eq)]
 pub struct Term {
-    /// The factor.
     pub factor: i32,
     /// The variable's number in the query, from 0.
     pub var: u8,
 }
 
-/// A linear expression: a constant plus the first `count` terms. Source: own.
+/// A linear expression: a constant plus the first `count` terms.
 #[derive(Clone, Copy, Debug, PartialEq, Eq)]
 pub struct Expr {
-    /// The constant.
     pub constant: i64,
     /// How many of the terms count.
     pub count: u8,
-    /// The terms, and behind them terms of factor 0.
+    /// The terms, and after them terms of factor 0.
     pub terms: [Term; 8],
 }
 
-/// How one number has to stand to another. Source: own.
+/// How one number has to compare with another.
 #[derive(Clone, Copy, Debug, PartialEq, Eq)]
 pub enum Compare {
     /// At most.
@@ -45,7 +43,7 @@ pub enum Compare {
     Eq,
 }
 
-/// What is computed of the present cells of a region. Source: own.
+/// What is computed of the present cells of a region.
 #[derive(Clone, Copy, Debug, PartialEq, Eq)]
 pub enum Agg {
     /// Their total, 0 for none.
@@ -60,7 +58,7 @@ pub enum Agg {
     Avg,
 }
 
-/// The number p / q. Source: own.
+/// The number p / q.
 #[derive(Clone, Copy, Debug, PartialEq, Eq)]
 pub struct Fraction {
     /// The numerator.
@@ -69,7 +67,7 @@ pub struct Fraction {
     pub q: i64,
 }
 
-/// A variable with its least and its greatest value; it has no value where `from` is above `to`. Source: own.
+/// A variable with its least and its greatest value; it has no value where `from` is above `to`.
 #[derive(Clone, Copy, Debug, PartialEq, Eq)]
 pub struct Variable {
     /// What the variable is called in the query and in the output.
@@ -80,8 +78,8 @@ pub struct Variable {
     pub to: i32,
 }
 
-/// A rectangle of cells that variables place: in each dimension the place where it begins and how many
-/// places long it is. A dimension that is not used begins at 0 and has length 1. Source: own.
+/// A rectangle of cells that variables place: in each dimension the index where it begins and how many
+/// cells long it is. A dimension that is not used begins at 0 and has length 1.
 #[derive(Clone, Copy, Debug, PartialEq, Eq)]
 pub struct Region {
     /// What the region is called in the query.
@@ -92,16 +90,16 @@ pub struct Region {
     pub length: [Expr; 3],
 }
 
-/// What has to hold at a solution. Source: own.
+/// What has to hold at a solution.
 #[derive(Clone, Copy, Debug, PartialEq, Eq)]
 pub enum Constraint {
-    /// The expression stands so to a number.
+    /// The expression compares so with a number.
     Linear {
         expr: Expr,
         compare: Compare,
         to: i64,
     },
-    /// The region, by its number from 0, is proper, and the aggregate of its present cells stands so to a number.
+    /// The region, by its number from 0, is proper, and the aggregate of its present cells compares so with a number.
     Aggregate {
         agg: Agg,
         region: u8,

@@ -1,16 +1,17 @@
-//! Queries.
-ghost use Rattle.std.specs.Prelude.{◌≡◌};
-ghost use Rattle.domains.specs.Boxes.{box_from, points_in};
+//! Queries, which keep every rule of a query. `query_text` makes them, and every search takes one.
+ghost use Rattle.std.specs.Prelude.{◌≡◌, All, length};
+ghost use Rattle.domains.specs.VarBoxes.{box_from, points_in};
 ghost use Rattle.domains.specs.Points.{points_of};
 ghost use Rattle.query_model.specs.Answer.{box_of, domain_of};
 ghost use Rattle.query_model.specs.Rules.{IsQuery};
 
 use crate::{Constraint, Region, Variable};
+use domains::laws::points_have_all_values;
 use domains::{Dom, VarBox};
 use std::marker::Model;
 
 impl Variable {
-    /// Its range. Source: own.
+    /// Its range as a domain.
     pub fn domain(&self) -> Dom
         ensures { result ≡ domain_of self.now }
     {
@@ -22,7 +23,7 @@ impl Variable {
 }
 
 /// A query: what is searched for on arrays of one rank. Clauses see its rank and its three lists. Its type
-/// keeps every limit and every rule of a query (`IsQuery`). Source: own.
+/// keeps every limit and every rule of a query (`IsQuery`).
 #[derive(Drop)]
 pub struct Query {
     rank: u8,
@@ -43,7 +44,7 @@ impl Model for Query {
 }
 
 impl Query {
-    /// A query of these parts. Source: own.
+    /// A query of these parts.
     pub fn new(
         rank: u8,
         variables: Vec<Variable>,
@@ -61,7 +62,7 @@ impl Query {
         }
     }
 
-    /// The rank of the arrays that it is for, 1 to 3. Source: own.
+    /// The rank of the arrays that it is for, 1 to 3.
     pub fn rank(&self) -> u8
         ensures rank { result ≡ self.now.rank }
         ensures rules { IsQuery self.now }
@@ -69,7 +70,7 @@ impl Query {
         self.rank
     }
 
-    /// Its variables, 1 to 8, in the order of a point's values. Source: own.
+    /// Its variables, 1 to 8, in the order of a point's values.
     pub fn variables(&self) -> &[Variable]
         ensures variables { result.now ≡ self.now.variables }
         ensures rules { IsQuery self.now }
@@ -77,7 +78,7 @@ impl Query {
         self.variables.as_slice()
     }
 
-    /// Its regions, at most 16; constraints name them by their places. Source: own.
+    /// Its regions, at most 16; constraints name them by their places.
     pub fn regions(&self) -> &[Region]
         ensures regions { result.now ≡ self.now.regions }
         ensures rules { IsQuery self.now }
@@ -85,7 +86,7 @@ impl Query {
         self.regions.as_slice()
     }
 
-    /// Its constraints, at most 64. Source: own.
+    /// Its constraints, at most 64.
     pub fn constraints(&self) -> &[Constraint]
         ensures constraints { result.now ≡ self.now.constraints }
         ensures rules { IsQuery self.now }
@@ -93,11 +94,14 @@ impl Query {
         self.constraints.as_slice()
     }
 
-    /// The box of the variables' ranges. It is the empty box where some range has no value. Source: own.
+    /// The box of the variables' ranges, the empty box where some range has no value. Each of its points has a
+    /// value for each variable.
     pub fn root(&self) -> VarBox
         ensures domains { result ≡ box_from (box_of self.now) }
         ensures points { points_in result ≡ points_of (box_of self.now) }
+        ensures values { All (λ p. length p ≡ length self.now.variables) (points_in result) }
     {
+        points_have_all_values();
         let mut doms = [Dom { lo: 0, hi: 0 }; 8];
         let count = self.variables.len();
         for i in 0..count {

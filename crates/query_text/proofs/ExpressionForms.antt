@@ -9,20 +9,20 @@ use Rattle.std.proofs.lemmas.Option.{none-some, same_Some}
 use Rattle.std.specs.Prelude.{Option, None, Some, Ok, All, IfSome, unwrap_or, option_and_then, option_map, option_to_list}
 use Rattle.serde_json.specs.Data.{Data, null, boolean, number, string, array, object}
 use Rattle.serde_json.specs.Find.{as_integer}
-use Rattle.grid_cells.specs.Numbers.{IsWithin}
+use Rattle.lists.specs.Numbers.{IsWithin}
 use Rattle.query_model.specs.declared.parts.Expr.{Expr}
 use Rattle.query_model.specs.declared.parts.Term.{Term}
 use Rattle.query_model.specs.declared.parts.Variable.{Variable}
 use Rattle.query_model.specs.Rules.{IsTerm, IsExpr, no_term, constant_expr}
-use Rattle.query_text.specs.declared.place.Place.{Place}
+use Rattle.query_text.specs.declared.location.Location.{Location}
 use Rattle.query_text.specs.declared.refusal.QueryRefusal.{QueryRefusal}
 use Rattle.query_text.specs.Form.{every, product_form, item_form, constants_of, terms_of, sum_of_items, sum_form, expr_form}
 use Rattle.query_text.specs.Json.{list_of, two_of, number_and_text_of}
-use Rattle.query_text.specs.Named.{variable_named}
+use Rattle.query_text.specs.Lookup.{variable_named}
 use Rattle.query_text.specs.Sums.{SumParts, empty_sum, with_term, expr_of}
 use Rattle.query_text.specs.Walk.{◌>>=◌, or_refuse, walk_whole, walk_term, walk_sum, walk_expr, walk_variable_alone}
 use Rattle.query_text.proofs.Agrees.{Agrees, agrees_ok, agrees_none, agrees_map, agrees_unless, agrees_within, map_some}
-use Rattle.query_text.proofs.Walking.{then_some}
+use Rattle.query_text.proofs.ListForms.{then_some}
 use Rattle.query_text.proofs.Numbers.{IsUpTo, agrees_whole, small_31}
 use Rattle.query_text.proofs.SumKept.{IsSmall, sum_made}
 use Rattle.query_text.proofs.SumForms.{agrees_items}
@@ -89,7 +89,7 @@ few_items n variables ds e h rules =
     not_more (length (constants_of p.0)) (length (terms_of p.0)) (length ds) made.0
     (subst (λ (k : ℕ). k ≤ 8) (sym (ap length made.1 ∙ ap (λ (x : Expr). x.count) m.2)) rules.count) (items_size variables ds p.0 p.1)
 
-agrees_sum : (n : ℕ) (variables : List Variable) (at : Place) (ds : List Data) → Agrees (IsExpr n) (sum_form variables ds) (walk_sum variables at ds)
+agrees_sum : (n : ℕ) (variables : List Variable) (at : Location) (ds : List Data) → Agrees (IsExpr n) (sum_form variables ds) (walk_sum variables at ds)
 unfolding sum_form walk_sum
 agrees_sum n variables at ds =
     agrees_unless (IsExpr n) (length ds == 0) (QueryRefusal.Shape at) _ _
@@ -98,7 +98,7 @@ agrees_sum n variables at ds =
 
 -- ---- expressions
 
-agrees_alone : (n : ℕ) (variables : List Variable) (at : Place) (text : List ℕ) → Agrees (IsExpr n) (option_map expr_of (product_form variables (pos 1) text)) (walk_variable_alone variables at text)
+agrees_alone : (n : ℕ) (variables : List Variable) (at : Location) (text : List ℕ) → Agrees (IsExpr n) (option_map expr_of (product_form variables (pos 1) text)) (walk_variable_alone variables at text)
 unfolding walk_term
 agrees_alone n variables at text = by (variable_named text variables)
   where
@@ -108,7 +108,7 @@ agrees_alone n variables at text = by (variable_named text variables)
     by None = agrees_none (IsExpr n) (QueryRefusal.Unbound at)
     by (Some v) = agrees_ok (IsExpr n) (expr_of (record { constant = None; terms = record { factor = pos 1; var = v } ∷ [] }))
 
-pub agrees_expr : (n : ℕ) (variables : List Variable) (at : Place) (d : Data) → Agrees (IsExpr n) (expr_form variables d) (walk_expr variables at d)
+pub agrees_expr : (n : ℕ) (variables : List Variable) (at : Location) (d : Data) → Agrees (IsExpr n) (expr_form variables d) (walk_expr variables at d)
 unfolding expr_form walk_expr
 agrees_expr n variables at null = agrees_none (IsExpr n) (QueryRefusal.Shape at)
 agrees_expr n variables at (boolean b) = agrees_none (IsExpr n) (QueryRefusal.Shape at)

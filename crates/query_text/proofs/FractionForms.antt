@@ -8,7 +8,7 @@ use Rattle.serde_json.specs.Find.{get, as_integer}
 use Rattle.query_model.specs.declared.parts.Agg.{Agg}
 use Rattle.query_model.specs.declared.parts.Agg.TheVariants.{Sum, Min, Max, Count, Avg}
 use Rattle.query_model.specs.Rules.{IsFraction, IsWhole}
-use Rattle.query_text.specs.declared.place.Place.{Place}
+use Rattle.query_text.specs.declared.location.Location.{Location}
 use Rattle.query_text.specs.declared.refusal.QueryRefusal.{QueryRefusal}
 use Rattle.query_text.specs.Form.{items_at, whole_at, whole_fraction_at, fraction_form, fraction_at}
 use Rattle.query_text.specs.Json.{two_of, numbers_of}
@@ -16,7 +16,7 @@ use Rattle.query_text.specs.Walk.{whole_fraction, walk_number, walk_whole_fracti
 use Rattle.query_text.proofs.Agrees.{Agrees, agrees_found, agrees_map, agrees_two}
 use Rattle.query_text.proofs.Numbers.{IsUpTo, IsBetween, agrees_between, agrees_whole, agrees_number, small_52}
 
-module _ (whole : Type 0) (at : Place) where
+module _ (whole : Type 0) (at : Location) where
   agrees_whole_fraction : (d : Data) → Agrees (IsFraction whole) (whole_fraction_at d) (walk_whole_fraction at (get (codes "to") d))
   agrees_whole_fraction d =
       agrees_map (IsUpTo (2 ^ 52)) (IsFraction whole) (whole_at (codes "to") d) (walk_number (2 ^ 52) at (get (codes "to") d)) whole_fraction
@@ -36,7 +36,7 @@ module _ (whole : Type 0) (at : Place) where
       by None = agrees_whole_fraction d
       by (Some ds) = agrees_pair ds
 
-pub agrees_fraction : (agg : Agg) (at : Place) (d : Data) → Agrees (IsFraction (IsWhole agg)) (fraction_at agg d) (walk_fraction agg at (get (codes "to") d))
+pub agrees_fraction : (agg : Agg) (at : Location) (d : Data) → Agrees (IsFraction (IsWhole agg)) (fraction_at agg d) (walk_fraction agg at (get (codes "to") d))
 unfolding fraction_at walk_fraction
 agrees_fraction Sum at d = agrees_whole_fraction (IsWhole Sum) at d
 agrees_fraction Min at d = agrees_whole_fraction (IsWhole Min) at d

@@ -6,11 +6,11 @@ use Rattle.serde_json.specs.Data.{Data}
 use Rattle.serde_json.specs.Read.{read}
 use Rattle.query_text.specs.declared.refusal.QueryRefusal.TheVariants.{NotJson}
 use Rattle.query_text.specs.Json.{json_of}
-use Rattle.query_text.specs.Walk.{◌>>=◌, or_refuse, walk_query, walk_text_of}
+use Rattle.query_text.specs.Walk.{◌>>=◌, or_refuse, walk_query, walk_bytes}
 
 -- bytes that are read as a value are walked as it
-pub walk_text_of-value : (rank : ℕ) (bytes : List ℕ) (d : Data) → IsUtf8 bytes → read bytes ≡ Some d → walk_text_of rank bytes ≡ walk_query rank d
-walk_text_of-value rank bytes d text e =
+pub walk_bytes-value : (rank : ℕ) (bytes : List ℕ) (d : Data) → IsUtf8 bytes → read bytes ≡ Some d → walk_bytes rank bytes ≡ walk_query rank d
+walk_bytes-value rank bytes d text e =
     let is_json : json_of bytes ≡ Some d = ap (λ (b : Bool). if b then read bytes else None) (is_utf8-from_IsUtf8 bytes text) ∙ e in
     ap (λ o. or_refuse NotJson o >>= walk_query rank) is_json
 
@@ -19,5 +19,5 @@ none_by bytes true e h = h (IsUtf8-from_is_utf8 bytes e)
 none_by bytes false e h = refl
 
 -- bytes that are no JSON are refused so
-pub walk_text_of-none : (rank : ℕ) (bytes : List ℕ) → (IsUtf8 bytes → read bytes ≡ None) → walk_text_of rank bytes ≡ Err NotJson
-walk_text_of-none rank bytes h = ap (λ o. or_refuse NotJson o >>= walk_query rank) (none_by bytes (is_utf8 bytes) refl h)
+pub walk_bytes-none : (rank : ℕ) (bytes : List ℕ) → (IsUtf8 bytes → read bytes ≡ None) → walk_bytes rank bytes ≡ Err NotJson
+walk_bytes-none rank bytes h = ap (λ o. or_refuse NotJson o >>= walk_query rank) (none_by bytes (is_utf8 bytes) refl h)

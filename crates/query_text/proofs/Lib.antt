@@ -1,12 +1,12 @@
 pub mod Members
 pub mod Items
 pub mod Terms
-pub mod Along
-pub mod Fresh
+pub mod ItemLoops
+pub mod Lookups
 pub mod JsonBytes
-pub mod Assignments
+pub mod PointCounts
 pub mod Agrees
-pub mod Walking
+pub mod ListForms
 pub mod Differing
 pub mod NewNames
 pub mod Numbers

@@ -9,7 +9,7 @@ use Rattle.serde_json.specs.Data.{Data}
 use Rattle.serde_json.specs.Find.{as_str}
 use Rattle.query_model.specs.declared.parts.Name.{Name}
 use Rattle.query_model.specs.NameForm.{is_name, name_of}
-use Rattle.query_text.specs.declared.place.Place.{Place}
+use Rattle.query_text.specs.declared.location.Location.{Location}
 use Rattle.query_text.specs.declared.refusal.QueryRefusal.{QueryRefusal}
 use Rattle.query_text.specs.Form.{where_true}
 use Rattle.query_text.specs.Walk.{Walked, ◌>>=◌, or_refuse, refuse_if, walk_new_name}
@@ -23,23 +23,23 @@ some_if false x = refl
 one_less : (m n : ℕ) → nat_lt (1 + m) (suc n) ≡ nat_lt m n
 one_less m n = grind (arith, nat_tests)
 
-place_below-cons : (passes any : Bool) (m n : ℕ) → nat_lt m n ≡ any → nat_lt (cond (not passes) (1 + m) 0) (suc n) ≡ (passes || any)
-place_below-cons true any m n e = grind (arith, nat_tests)
-place_below-cons false any m n e = one_less m n ∙ e
+position_below-cons : (passes any : Bool) (m n : ℕ) → nat_lt m n ≡ any → nat_lt (cond (not passes) (1 + m) 0) (suc n) ≡ (passes || any)
+position_below-cons true any m n e = grind (arith, nat_tests)
+position_below-cons false any m n e = one_less m n ∙ e
 
-place_below : {X : Type 0} (test : X → Bool) (xs : List X) → nat_lt (position_or_len test xs) (length xs) ≡ list_any test xs
-place_below test [] = refl
-place_below test (x ∷ xs) = place_below-cons (test x) (list_any test xs) (position_or_len test xs) (length xs) (place_below test xs)
+position_below : {X : Type 0} (test : X → Bool) (xs : List X) → nat_lt (position_or_len test xs) (length xs) ≡ list_any test xs
+position_below test [] = refl
+position_below test (x ∷ xs) = position_below-cons (test x) (list_any test xs) (position_or_len test xs) (length xs) (position_below test xs)
 
--- there is a first place where there is one that passes
+-- there is a first position if one passes
 pub is_some-position : {X : Type 0} (test : X → Bool) (xs : List X) → is_some (position test xs) ≡ list_any test xs
-is_some-position test xs = some_if (nat_lt (position_or_len test xs) (length xs)) (position_or_len test xs) ∙ place_below test xs
+is_some-position test xs = some_if (nat_lt (position_or_len test xs) (length xs)) (position_or_len test xs) ∙ position_below test xs
 
 -- a name that is not taken
-pub agrees_fresh : {X : Type 0} (P : X → Type 0) (name : X → List ℕ) (before : List X) (text : List ℕ) (r : QueryRefusal) (f : Option X) (w : Walked X)
+pub agrees_unused : {X : Type 0} (P : X → Type 0) (name : X → List ℕ) (before : List X) (text : List ℕ) (r : QueryRefusal) (f : Option X) (w : Walked X)
     → ((x : X) → f ≡ Some x → name x ≡ text) → Agrees P f w
     → Agrees P (option_and_then (λ x. where_true (differs (λ y z. bytes_eq (name y) (name z)) before x) (Some x)) f) (refuse_if (is_some (position (λ y. bytes_eq (name y) text) before)) r >>= (λ _. w))
-agrees_fresh {X} P name before text r f w named h =
+agrees_unused {X} P name before text r f w named h =
     agrees_form P _ _ _ (by f named ∙ ap (λ b. where_true (not b) f) (sym (is_some-position (λ y. bytes_eq (name y) text) before)))
     (agrees_unless P (is_some (position (λ y. bytes_eq (name y) text) before)) r f w (λ e. h))
   where
@@ -57,34 +57,34 @@ then_new true r n k = refl
 then_new false r n k = refl
 
 -- a text of the form of names that is not taken
-module _ {X : Type 0} (P : X → Type 0) (name : X → List ℕ) (before : List X) (at : Place) (g : Name → Option X) (k : Name → Walked X)
+module _ {X : Type 0} (P : X → Type 0) (name : X → List ℕ) (before : List X) (at : Location) (g : Name → Option X) (k : Name → Walked X)
     (named : (text : List ℕ) (x : X) → g (name_of text) ≡ Some x → name x ≡ text)
     (next : (text : List ℕ) → Agrees P (g (name_of text)) (k (name_of text))) where
   -- it, where its name is not taken
-  where_fresh : X → Option X
-  where_fresh x = where_true (differs (λ y z. bytes_eq (name y) (name z)) before x) (Some x)
+  where_unused : X → Option X
+  where_unused x = where_true (differs (λ y z. bytes_eq (name y) (name z)) before x) (Some x)
 
   -- one before has the name
   is_taken : List ℕ → Bool
   is_taken text = is_some (position (λ y. bytes_eq (name y) text) before)
 
   one_name : (text : List ℕ) (b : Bool)
-      → Agrees P (option_and_then (λ n. option_and_then where_fresh (g n)) (where_true b (Some (name_of text))))
+      → Agrees P (option_and_then (λ n. option_and_then where_unused (g n)) (where_true b (Some (name_of text))))
       (((if b then Ok text else Err (QueryRefusal.Name at)) >>= (λ t. refuse_if (is_taken t) (QueryRefusal.Repeated at) >>= (λ _. Ok (name_of t)))) >>= k)
-  unfolding where_fresh is_taken
+  unfolding where_unused is_taken
   one_name text true =
       agrees_walk P _ _ _ (then_new (is_taken text) (QueryRefusal.Repeated at) (name_of text) k)
-      (agrees_fresh P name before text (QueryRefusal.Repeated at) (g (name_of text)) (k (name_of text)) (named text) (next text))
+      (agrees_unused P name before text (QueryRefusal.Repeated at) (g (name_of text)) (k (name_of text)) (named text) (next text))
   one_name text false = agrees_none P (QueryRefusal.Name at)
 
   pub agrees_new_name : (found : Option Data)
       → Agrees P (option_and_then (λ n. option_and_then (λ x. where_true (differs (λ y z. bytes_eq (name y) (name z)) before x) (Some x)) (g n)) (option_and_then (λ text. where_true (is_name text) (Some (name_of text))) (option_and_then as_str found)))
       (walk_new_name (λ text. is_some (position (λ y. bytes_eq (name y) text) before)) at found >>= k)
-  unfolding where_fresh is_taken
+  unfolding where_unused is_taken
   agrees_new_name found = by (option_and_then as_str found)
     where
       by : (o : Option (List ℕ))
-          → Agrees P (option_and_then (λ n. option_and_then where_fresh (g n)) (option_and_then (λ text. where_true (is_name text) (Some (name_of text))) o))
+          → Agrees P (option_and_then (λ n. option_and_then where_unused (g n)) (option_and_then (λ text. where_true (is_name text) (Some (name_of text))) o))
           (((or_refuse (QueryRefusal.Shape at) o >>= (λ text. if is_name text then Ok text else Err (QueryRefusal.Name at))) >>= (λ t. refuse_if (is_taken t) (QueryRefusal.Repeated at) >>= (λ _. Ok (name_of t)))) >>= k)
       by None = agrees_none P (QueryRefusal.Shape at)
       by (Some text) = one_name text (is_name text)

@@ -5,8 +5,8 @@ use Rattle.std.proofs.lemmas.Option.{same_Some}
 use Rattle.std.specs.Prelude.{Option, None, Some, option_and_then, if◌then◌else◌}
 use Rattle.serde_json.specs.Data.{Data, Num, unsigned, negative, float}
 use Rattle.serde_json.specs.Find.{as_integer, as_number, as_str}
-use Rattle.grid_cells.specs.Numbers.{IsWithin}
-use Rattle.query_text.specs.declared.place.Place.{Place}
+use Rattle.lists.specs.Numbers.{IsWithin}
+use Rattle.query_text.specs.declared.location.Location.{Location}
 use Rattle.query_text.specs.declared.refusal.QueryRefusal.{QueryRefusal}
 use Rattle.query_text.specs.Json.{whole_between}
 use Rattle.query_text.specs.Limits.{IsLimit}
@@ -47,15 +47,15 @@ agrees_between low high r (float x) limit below = agrees_none (IsBetween low hig
 abbrev pub IsUpTo : ℕ → ℤ → Type 0
 IsUpTo bound z = IsWithin z bound
 
-pub agrees_whole : (bound : ℕ) (at : Place) (n : Num) → bound < 2 ^ 63 → Agrees (IsUpTo bound) (as_integer n) (walk_whole bound at n)
+pub agrees_whole : (bound : ℕ) (at : Location) (n : Num) → bound < 2 ^ 63 → Agrees (IsUpTo bound) (as_integer n) (walk_whole bound at n)
 agrees_whole bound at n small =
     agrees_more (IsBetween (neg_ℤ (pos bound)) (pos bound)) (IsUpTo bound) _ _ (λ z e p. (p.low, p.high)) (agrees_between (neg_ℤ (pos bound)) (pos bound) (QueryRefusal.Number at) n tt (search (arith, ints)))
 
-pub agrees_number : (bound : ℕ) (at : Place) (found : Option Data) → bound < 2 ^ 63 → Agrees (IsUpTo bound) (option_and_then as_integer (option_and_then as_number found)) (walk_number bound at found)
+pub agrees_number : (bound : ℕ) (at : Location) (found : Option Data) → bound < 2 ^ 63 → Agrees (IsUpTo bound) (option_and_then as_integer (option_and_then as_number found)) (walk_number bound at found)
 agrees_number bound at found small = agrees_found (IsUpTo bound) (QueryRefusal.Shape at) (option_and_then as_number found) as_integer (walk_whole bound at) (λ n e. agrees_whole bound at n small)
 
 -- a text that is one of some words
-pub agrees_word : {X : Type 0} (P : X → Type 0) (at : Place) (r : QueryRefusal) (named : List ℕ → Option X) (found : Option Data)
+pub agrees_word : {X : Type 0} (P : X → Type 0) (at : Location) (r : QueryRefusal) (named : List ℕ → Option X) (found : Option Data)
     → Agrees P (option_and_then named (option_and_then as_str found)) (walk_text at found >>= (λ text. or_refuse r (named text)))
 agrees_word P at r named found =
     agrees_found P (QueryRefusal.Shape at) (option_and_then as_str found) named (λ text. or_refuse r (named text)) (λ text e. agrees_or_refuse P r (named text))

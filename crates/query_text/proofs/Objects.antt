@@ -11,14 +11,14 @@ use Rattle.std.specs.Ordering.{is_eq, nat_cmp, match_ordering}
 use Rattle.std.specs.Cmp.Lexicographic.{slice_cmp}
 use Rattle.serde_json.specs.Data.{Data, null, boolean, number, string, array, object, Members, no_members, member}
 use Rattle.serde_json.specs.Find.{get, get_member}
-use Rattle.query_text.specs.declared.place.Place.{Place}
+use Rattle.query_text.specs.declared.location.Location.{Location}
 use Rattle.query_text.specs.declared.refusal.QueryRefusal.{QueryRefusal}
 use Rattle.query_text.specs.Form.{where_true, is_object_of}
 use Rattle.query_text.specs.Json.{has_only}
 use Rattle.query_text.specs.Walk.{Walked, ◌>>=◌, walk_object}
 use Rattle.query_text.proofs.Agrees.{Agrees, agrees_none, agrees_where}
 
-pub agrees_object : {X : Type 0} (P : X → Type 0) (keys : List (List ℕ)) (at : Place) (d : Data) (f : Option X) (w : Walked X)
+pub agrees_object : {X : Type 0} (P : X → Type 0) (keys : List (List ℕ)) (at : Location) (d : Data) (f : Option X) (w : Walked X)
     → Agrees P f w → Agrees P (where_true (is_object_of keys d) f) (walk_object keys at d >>= (λ _. w))
 agrees_object P keys at null f w h = agrees_none P (QueryRefusal.Shape at)
 agrees_object P keys at (boolean b) f w h = agrees_none P (QueryRefusal.Shape at)

@@ -6,14 +6,15 @@ use Rattle.std.specs.Prelude.{Option, None, Some, Ok, is_none, option_and_then, 
 use Rattle.std.specs.Option.{option_map_or}
 use Rattle.serde_json.specs.Data.{Data}
 use Rattle.serde_json.specs.Find.{get}
-use Rattle.query_text.specs.declared.place.Place.{Place}
+use Rattle.query_text.specs.declared.location.Location.{Location}
 use Rattle.query_text.specs.declared.refusal.QueryRefusal.{QueryRefusal}
 use Rattle.query_text.specs.Form.{where_true, every, items_at, part_at, variables_form, variables_at}
 use Rattle.query_text.specs.Json.{items_in}
-use Rattle.query_text.specs.Places as place
+use Rattle.query_text.specs.Locations as location
+use Rattle.query_text.specs.declared.location.Part.{Part}
 use Rattle.query_text.specs.Walk.{◌>>=◌, refuse_if, walk_items, walk_part, walk_variables_part}
 use Rattle.query_text.proofs.Agrees.{Agrees, agrees_ok, agrees_form, agrees_found, agrees_unless, agrees_within, map_some}
-use Rattle.query_text.proofs.Walking.{then_none, then_some, then-where, then_itself}
+use Rattle.query_text.proofs.ListForms.{then_none, then_some, then-where, then_itself}
 
 -- no more items than these
 abbrev pub IsFew : ℕ → List Data → Type 0
@@ -22,14 +23,14 @@ IsFew most ds = length ds ≤ most
 pub not_less : (m n : ℕ) → n ≤ m → nat_lt m n ≡ false
 not_less m n h = grind (arith, nat_tests)
 
-agrees_few : (most : ℕ) (at : Place) (ds : List Data) → Agrees (IsFew most) (Some ds) (refuse_if (nat_lt most (length ds)) (QueryRefusal.TooMany at) >>= (λ _. Ok ds))
+agrees_few : (most : ℕ) (at : Location) (ds : List Data) → Agrees (IsFew most) (Some ds) (refuse_if (nat_lt most (length ds)) (QueryRefusal.TooMany at) >>= (λ _. Ok ds))
 agrees_few most at ds =
     agrees_within (IsFew most) (nat_lt most (length ds)) (QueryRefusal.TooMany at) (Some ds) (Ok ds) tt
     (λ es e few. not_less most (length ds) (subst (IsFew most) (sym (same_Some ds es e)) few)) (λ few. agrees_ok (IsFew most) ds)
 
 -- ---- a part that may be absent
 
-pub agrees_part : (most : ℕ) (at : Place) (key : List ℕ) (d : Data) → Agrees (IsFew most) (part_at key d) (walk_part most at (get key d))
+pub agrees_part : (most : ℕ) (at : Location) (key : List ℕ) (d : Data) → Agrees (IsFew most) (part_at key d) (walk_part most at (get key d))
 unfolding walk_part
 agrees_part most at key d = by (get key d)
   where
@@ -47,8 +48,8 @@ some_items d = option_and_then (λ ds. where_true (not (length ds == 0)) (Some d
 pub agrees_some_items : (d : Data) → Agrees (IsFew 8) (some_items d) (walk_variables_part (get (codes "variables") d))
 unfolding walk_variables_part
 agrees_some_items d =
-    agrees_found (IsFew 8) (QueryRefusal.Shape place.variables) (items_at (codes "variables") d) _ _
-    (λ ds e. agrees_unless (IsFew 8) (length ds == 0) (QueryRefusal.Shape place.variables) _ _ (λ some. agrees_few 8 place.variables ds))
+    agrees_found (IsFew 8) (QueryRefusal.Shape (location.part Part.Variables)) (items_at (codes "variables") d) _ _
+    (λ ds e. agrees_unless (IsFew 8) (length ds == 0) (QueryRefusal.Shape (location.part Part.Variables)) _ _ (λ some. agrees_few 8 (location.part Part.Variables) ds))
 
 pub variables_at-items : (d : Data) → variables_at d ≡ option_and_then variables_form (some_items d)
 variables_at-items d = by (items_at (codes "variables") d)

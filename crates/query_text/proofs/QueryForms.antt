@@ -11,10 +11,11 @@ use Rattle.query_model.specs.Rules.{IsVariable, IsRegion, IsConstraint, IsQuery}
 use Rattle.query_text.specs.declared.refusal.QueryRefusal.{QueryRefusal}
 use Rattle.query_text.specs.Form.{where_true, every, is_object_of, part_at, variables_form, regions_form, constraint_form, query_form}
 use Rattle.query_text.specs.Limits.{IsLimit}
-use Rattle.query_text.specs.Places as place
-use Rattle.query_text.specs.Walk.{Walked, walk_each, walk_variable, walk_region, walk_constraints, walk_all, walk_last, walk_query, query_keys, assignments_of}
+use Rattle.query_text.specs.Locations as location
+use Rattle.query_text.specs.declared.location.Part.{Part}
+use Rattle.query_text.specs.Walk.{Walked, walk_each, walk_variable, walk_region, walk_constraints, walk_parts, walk_query_over, walk_query, query_keys, point_count}
 use Rattle.query_text.proofs.Agrees.{Agrees, agrees_ok, agrees_form, agrees_then, agrees_within, map_as_then, map_some}
-use Rattle.query_text.proofs.Walking.{then_some, where_some}
+use Rattle.query_text.proofs.ListForms.{then_some, where_some}
 use Rattle.query_text.proofs.Objects.{agrees_object}
 use Rattle.query_text.proofs.VariableForms.{agrees_variables}
 use Rattle.query_text.proofs.RegionForms.{agrees_regions}
@@ -72,16 +73,16 @@ module _ (rank : ℕ) where
 
   -- ---- the steps
 
-  agrees_all : (vs rs cs : List Data) → Agrees IsQuery (from_items vs rs cs) (walk_all rank vs rs cs)
-  unfolding walk_all walk_last
+  agrees_all : (vs rs cs : List Data) → Agrees IsQuery (from_items vs rs cs) (walk_parts rank vs rs cs)
+  unfolding walk_parts walk_query_over
   agrees_all vs rs cs =
       agrees_then (All IsVariable) IsQuery (variables_form vs) (walk_each walk_variable vs) _ _ (agrees_variables vs)
       (λ variables e. agrees_then (All (IsRegion rank (length variables))) IsQuery (regions_form rank variables rs) (walk_each (walk_region rank variables) rs) _ _ (agrees_regions rank (length variables) variables rs)
       (λ regions f. agrees_form IsQuery _ _ _ (map_as_then (λ constraints. made variables regions constraints) (every (constraint_form variables regions) cs))
       (agrees_then (All (IsConstraint (length variables) (length regions))) IsQuery (every (constraint_form variables regions) cs) (walk_constraints variables regions cs) _ _
       (agrees_constraints (length variables) (length regions) variables regions cs)
-      (λ constraints g. agrees_within IsQuery (nat_lt (2 ^ 62) (assignments_of variables)) QueryRefusal.TooLarge _ _ tt
-      (λ q h rules. let same = subst IsQuery (sym (same_Some (made variables regions constraints) q h)) rules in not_less (2 ^ 62) (assignments_of variables) same.few_assignments)
+      (λ constraints g. agrees_within IsQuery (nat_lt (2 ^ 62) (point_count variables)) QueryRefusal.TooLarge _ _ tt
+      (λ q h rules. let same = subst IsQuery (sym (same_Some (made variables regions constraints) q h)) rules in not_less (2 ^ 62) (point_count variables) same.few_points)
       (λ few. agrees_ok IsQuery (made variables regions constraints)))
       (λ constraints q g h rules. let same = subst IsQuery (sym (same_Some (made variables regions constraints) q h)) rules in same.constraints)))
       (λ regions q f h rules. (regions_made cs variables regions q h rules).2.regions))
@@ -101,10 +102,10 @@ module _ (rank : ℕ) where
   agrees_query d =
       let rest = part_at (codes "regions") d in let last = part_at (codes "constraints") d in
       agrees_form IsQuery _ _ _ (in_order d)
-      (agrees_object IsQuery query_keys place.query d _ _
+      (agrees_object IsQuery query_keys location.query d _ _
       (agrees_then (IsFew 8) IsQuery (some_items d) _ _ _ (agrees_some_items d)
-      (λ vs e. agrees_then (IsFew 16) IsQuery (part_at (codes "regions") d) _ _ _ (agrees_part 16 place.regions (codes "regions") d)
-      (λ rs f. agrees_then (IsFew 64) IsQuery (part_at (codes "constraints") d) _ _ _ (agrees_part 64 place.constraints (codes "constraints") d)
+      (λ vs e. agrees_then (IsFew 16) IsQuery (part_at (codes "regions") d) _ _ _ (agrees_part 16 (location.part Part.Regions) (codes "regions") d)
+      (λ rs f. agrees_then (IsFew 64) IsQuery (part_at (codes "constraints") d) _ _ _ (agrees_part 64 (location.part Part.Constraints) (codes "constraints") d)
       (λ cs g. agrees_all vs rs cs)
       (λ cs q g h rules. let m = items_made vs rs cs q h rules in subst (λ (k : ℕ). k ≤ 64) (every_length (constraint_form m.variables m.regions) cs m.constraints m.constraints_of) m.rules.few_constraints))
       (λ rs q f h rules. let c = then_some (λ cs. from_items vs rs cs) last q h in let m = items_made vs rs c.0 q c.2 rules in subst (λ (k : ℕ). k ≤ 16) (regions_length m.variables rs m.regions m.regions_of) m.rules.few_regions))

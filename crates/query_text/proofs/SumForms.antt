@@ -5,18 +5,18 @@ use Rattle.std.proofs.lemmas.List.Elements.{All-head}
 use Rattle.std.specs.Prelude.{Option, None, Some, All, is_some, option_and_then, option_map}
 use Rattle.serde_json.specs.Data.{Data, Num, null, boolean, number, string, array, object}
 use Rattle.serde_json.specs.Find.{as_integer}
-use Rattle.grid_cells.specs.Numbers.{IsWithin}
+use Rattle.lists.specs.Numbers.{IsWithin}
 use Rattle.query_model.specs.declared.parts.Term.{Term}
 use Rattle.query_model.specs.declared.parts.Variable.{Variable}
-use Rattle.query_text.specs.declared.place.Place.{Place}
+use Rattle.query_text.specs.declared.location.Location.{Location}
 use Rattle.query_text.specs.declared.refusal.QueryRefusal.{QueryRefusal}
 use Rattle.query_text.specs.Form.{where_true, every, product_form, constant_form, pair_form, item_form, sum_of_items}
 use Rattle.query_text.specs.Json.{list_of, two_of, number_and_text_of}
-use Rattle.query_text.specs.Named.{variable_named}
+use Rattle.query_text.specs.Lookup.{variable_named}
 use Rattle.query_text.specs.Sums.{SumParts, empty_sum, with_constant, with_term, has_term}
-use Rattle.query_text.specs.Walk.{walk_whole, walk_constant, walk_term, walk_product, walk_item, walk_along}
+use Rattle.query_text.specs.Walk.{walk_whole, walk_constant, walk_term, walk_product, walk_item, walk_fold}
 use Rattle.query_text.proofs.Agrees.{Agrees, agrees_ok, agrees_none, agrees_form, agrees_found, agrees_then, agrees_map, agrees_unless}
-use Rattle.query_text.proofs.Walking.{then-then, agrees_along, all_behind}
+use Rattle.query_text.proofs.ListForms.{then-then, agrees_fold, all_suffix}
 use Rattle.query_text.proofs.Numbers.{IsUpTo, agrees_whole, small_10, small_31}
 use Rattle.query_text.proofs.SumParts.{has_once, sum_splits, sum_stays, sum_with_term, sum_with_constant}
 use Rattle.query_text.proofs.SumKept.{IsSmall, sum_kept}
@@ -37,7 +37,7 @@ constant_item s None h = by (is_some s.constant)
     by true = refl
     by false = refl
 
-agrees_constant : (s : SumParts) (at : Place) (n : Num) → has_once s.terms ≡ true → Agrees IsSmall (option_and_then (joined s) (constant_form n)) (walk_constant at n s)
+agrees_constant : (s : SumParts) (at : Location) (n : Num) → has_once s.terms ≡ true → Agrees IsSmall (option_and_then (joined s) (constant_form n)) (walk_constant at n s)
 unfolding walk_constant
 agrees_constant s at n h =
     agrees_form IsSmall _ _ _ (constant_item s (as_integer n) h)
@@ -53,7 +53,7 @@ unfolding joined
 term_item s factor None h = refl
 term_item s factor (Some v) h = sum_with_term s (record { factor = factor; var = v }) h
 
-agrees_term : (s : SumParts) (variables : List Variable) (at : Place) (factor : ℤ) (text : List ℕ) → has_once s.terms ≡ true
+agrees_term : (s : SumParts) (variables : List Variable) (at : Location) (factor : ℤ) (text : List ℕ) → has_once s.terms ≡ true
     → Agrees IsSmall (option_and_then (joined s) (product_form variables factor text)) (walk_term variables at factor text s)
 unfolding walk_term
 agrees_term s variables at factor text h =
@@ -75,9 +75,9 @@ factor_kept s variables factor text z e small = by (variable_named text variable
     by (Some v) e =
         let t : Term = record { factor = factor; var = v } in
         let kept = sum_kept s (record { constant = None; terms = t ∷ [] } ∷ []) z e in
-        All-head P t [] (all_behind P s.terms (t ∷ []) (subst (All P) (sym kept.1) small.factors))
+        All-head P t [] (all_suffix P s.terms (t ∷ []) (subst (All P) (sym kept.1) small.factors))
 
-agrees_product : (s : SumParts) (variables : List Variable) (at : Place) (ds : List Data) → has_once s.terms ≡ true
+agrees_product : (s : SumParts) (variables : List Variable) (at : Location) (ds : List Data) → has_once s.terms ≡ true
     → Agrees IsSmall (option_and_then (joined s) (pair_form variables ds)) (walk_product variables at s ds)
 unfolding walk_product
 agrees_product s variables at ds h =
@@ -89,7 +89,7 @@ agrees_product s variables at ds h =
 
 -- ---- an item, and all
 
-agrees_item : (variables : List Variable) (at : Place) (s : SumParts) (d : Data) → has_once s.terms ≡ true
+agrees_item : (variables : List Variable) (at : Location) (s : SumParts) (d : Data) → has_once s.terms ≡ true
     → Agrees IsSmall (option_and_then (joined s) (item_form variables d)) (walk_item variables at s d)
 unfolding item_form walk_item
 agrees_item variables at s null h = agrees_none IsSmall (QueryRefusal.Shape at)
@@ -100,9 +100,9 @@ agrees_item variables at s (array ds) h = agrees_product s variables at (list_of
 agrees_item variables at s (object ms) h = agrees_none IsSmall (QueryRefusal.Shape at)
 
 -- the sum of the items
-pub agrees_items : (variables : List Variable) (at : Place) (ds : List Data)
-    → Agrees IsSmall (option_and_then sum_of_items (every (item_form variables) ds)) (walk_along (walk_item variables at) empty_sum ds)
+pub agrees_items : (variables : List Variable) (at : Location) (ds : List Data)
+    → Agrees IsSmall (option_and_then sum_of_items (every (item_form variables) ds)) (walk_fold (walk_item variables at) empty_sum ds)
 unfolding joined sum_of_items
 agrees_items variables at ds =
-    agrees_along (λ s items. sum_of_items (s ∷ items)) (item_form variables) (walk_item variables at) IsSmall (λ s. has_once s.terms ≡ true)
+    agrees_fold (λ s items. sum_of_items (s ∷ items)) (item_form variables) (walk_item variables at) IsSmall (λ s. has_once s.terms ≡ true)
     sum_stays sum_splits (λ s i z h e. (sum_kept s (i ∷ []) z e).0) (λ s items z e. (sum_kept s items z e).2) (agrees_item variables at) ds empty_sum refl

@@ -2,11 +2,11 @@
 use Rattle.std.proofs.Common.{◌≡◌, ℕ, ◌^◌, ◌≤◌, true, ◌&&◌, nat_le, ℤ, List, ◌∷◌, ◌++◌, length, sym, ap, subst, ◌∙◌, arith}
 use Rattle.std.specs.Prelude.{Option, None, Some, All, IfSome, option_to_list}
 use Rattle.std.specs.List.{slice_get}
-use Rattle.grid_cells.specs.Numbers.{IsWithin}
+use Rattle.lists.specs.Numbers.{IsWithin}
 use Rattle.query_model.specs.declared.parts.Term.{Term}
 use Rattle.query_text.specs.Form.{constants_of, terms_of, sum_of_items}
 use Rattle.query_text.specs.Sums.{SumParts}
-use Rattle.query_text.proofs.Walking.{where_some, all_before}
+use Rattle.query_text.proofs.ListForms.{where_some, all_prefix}
 use Rattle.query_text.proofs.SumParts.{has_once, sum_of_items-parts, and_first}
 
 -- its constant is within 2^31 and its factors within 1024
@@ -27,7 +27,7 @@ sum_kept s items z e =
       subst (λ l. has_once l ≡ true) terms (and_first (nat_le (length cs) 1) (has_once ts) w.0).1,
       terms,
       λ small. let before = subst IsSmall (sym w.1) small in
-          record { constant = kept_constant (λ y. IsWithin y (2 ^ 31)) s.constant (constants_of items) before.constant; factors = all_before (λ (t : Term). IsWithin t.factor 1024) s.terms (terms_of items) before.factors },
+          record { constant = kept_constant (λ y. IsWithin y (2 ^ 31)) s.constant (constants_of items) before.constant; factors = all_prefix (λ (t : Term). IsWithin t.factor 1024) s.terms (terms_of items) before.factors },
     )
 
 -- a sum of items has one constant at most, and the terms of all

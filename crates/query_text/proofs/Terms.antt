@@ -10,7 +10,7 @@ use Rattle.std.proofs.lemmas.List.Quantifiers.{all_pairs_push}
 use Rattle.std.proofs.lemmas.Map.Made.{IsDistinct-from_AllPairs}
 use Rattle.std.proofs.lemmas.Map.Steps.{length-le_from_distinct_below}
 use Rattle.std.proofs.Math.Seq.{take-append_seam, drop-append_seam}
-use Rattle.grid_cells.specs.Numbers.{IsWithin}
+use Rattle.lists.specs.Numbers.{IsWithin}
 use Rattle.query_model.specs.declared.parts.Term.{Term}
 use Rattle.query_model.specs.Rules.{IsTerm, IsExpr, no_term}
 use Rattle.query_text.specs.Sums.{SumParts, IsSum, empty_sum, with_constant, with_term, has_term, expr_of}

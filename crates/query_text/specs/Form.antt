@@ -1,4 +1,5 @@
--- The form of a query: which JSON value stands for which query. It knows no order of tests, no places and no limits.
+-- The form of a query: which JSON value stands for which query. It knows no order of tests, no locations and no limits.
+-- The laws compare the walk with it.
 use Rattle.std.specs.Prelude.{ℕ, ◌-◌, ℤ, pos, nat_le, Bool, true, false, not, ◌&&◌, ◌==◌, List, [], ◌∷◌, ◌++◌, length, flat_map, replicate, Option, Some, None, is_none, option_map, option_and_then, option_to_list, if◌then◌else◌, codes}
 use Rattle.std.specs.Option.{option_map_or}
 use Rattle.std.specs.List.{list_any, slice_get}
@@ -20,7 +21,7 @@ use Rattle.query_model.specs.declared.parts.Region.{Region}
 use Rattle.query_model.specs.declared.parts.Term.{Term}
 use Rattle.query_model.specs.declared.parts.Variable.{Variable}
 use Rattle.query_text.specs.Json.{has_only, items_in, two_of, numbers_of, number_and_text_of}
-use Rattle.query_text.specs.Named.{variable_named, region_named, agg_named, compare_named}
+use Rattle.query_text.specs.Lookup.{variable_named, region_named, agg_named, compare_named}
 use Rattle.query_text.specs.Sums.{SumParts, expr_of}
 
 -- ---- parts of values

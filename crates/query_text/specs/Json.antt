@@ -1,4 +1,5 @@
--- Parts of JSON values.
+-- JSON values: the keys of objects, the items of arrays, and whole numbers.
+-- `Form`, `Walk` and the contracts of `json_array`, `keys` and `number` use it.
 use Rattle.std.specs.Prelude.{ℕ, ℤ, pos, neg_ℤ, Bool, ◌&&◌, int_le, List, [], ◌∷◌, Option, Some, None, option_map, option_and_then, if◌then◌else◌}
 use Rattle.std.specs.List.{list_all, list_any}
 use Rattle.std.specs.Str.{is_utf8, bytes_eq}
@@ -6,7 +7,7 @@ use Rattle.serde_json.specs.Data.{Data, Num, Items, no_items, item, Members, no_
 use Rattle.serde_json.specs.Read.{read}
 use Rattle.serde_json.specs.Find.{as_array, as_number, as_str, as_i64}
 
--- the value that these bytes hold, where they are JSON
+-- the value that these bytes hold, if they are JSON
 abbrev pub json_of : List ℕ → Option Data
 json_of bytes = if is_utf8 bytes then read bytes else None
 
@@ -30,18 +31,18 @@ list_of (item d ds) = d ∷ list_of ds
 abbrev pub items_in : Data → Option (List Data)
 items_in d = option_map list_of (as_array d)
 
--- the two of a list of two
+-- the two items of a list, if it has exactly two
 abbrev pub two_of : List Data → Option (Data × Data)
 two_of [] = None
 two_of (d ∷ []) = None
 two_of (d ∷ e ∷ []) = Some (d, e)
 two_of (d ∷ e ∷ f ∷ ds) = None
 
--- the numbers of a pair of numbers
+-- a pair as two numbers, if both are
 abbrev pub numbers_of : Data × Data → Option (Num × Num)
 numbers_of p = option_and_then (λ m. option_map (λ n. (m, n)) (as_number p.1)) (as_number p.0)
 
--- the number and the text of a pair of such
+-- a pair as a number and a text, if they are
 abbrev pub number_and_text_of : Data × Data → Option (Num × List ℕ)
 number_and_text_of p = option_and_then (λ n. option_map (λ text. (n, text)) (as_str p.1)) (as_number p.0)
 

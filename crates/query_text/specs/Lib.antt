@@ -1,7 +1,7 @@
-pub mod Places
+pub mod Locations
 pub mod Json
 pub mod Sums
-pub mod Named
+pub mod Lookup
 pub mod Walk
 pub mod Reads
 pub mod Form

@@ -1,4 +1,5 @@
--- Lists of variables and of regions that a query may have.
+-- The lists of variables and of regions that a query may have.
+-- The contracts of `variable`, `region` and `read` use it.
 use Rattle.std.specs.Prelude.{◌≢◌, ℕ, ◌≤◌, List, length, All, AllPairs}
 use Rattle.query_model.specs.Rules.{IsVariable, IsRegion}
 use Rattle.query_model.specs.declared.parts.Region.{Region}

@@ -1,4 +1,5 @@
--- What reading answers: what the walk gives, or want of memory.
+-- What reading may answer: what the walk gives, or out of memory.
+-- The contracts of the functions that read use it.
 use Rattle.std.specs.Prelude.{◌≡◌, Result, Ok, Err, ⊤}
 use Rattle.query_text.specs.declared.fault.QueryFault.{QueryFault}
 use Rattle.query_text.specs.declared.fault.QueryFault.TheVariants.{Refused, NoMemory}

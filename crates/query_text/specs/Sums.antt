@@ -1,12 +1,13 @@
--- A sum of a constant and terms, as far as it has been read.
+-- The sum of an expression, as far as it was read: a constant and terms.
+-- `Form`, `Walk` and the contracts of `sum` and `expression` use it.
 use Rattle.std.specs.Prelude.{◌≢◌, ℕ, ◌-◌, ◌^◌, ℤ, pos, Bool, ◌==◌, List, [], ◌∷◌, ◌++◌, length, replicate, Option, None, Some, unwrap_or, All, AllPairs, IfSome}
 use Rattle.std.specs.List.{list_any}
-use Rattle.grid_cells.specs.Numbers.{IsWithin}
+use Rattle.lists.specs.Numbers.{IsWithin}
 use Rattle.query_model.specs.declared.parts.Expr.{Expr}
 use Rattle.query_model.specs.declared.parts.Term.{Term}
 use Rattle.query_model.specs.Rules.{IsTerm, no_term}
 
--- its constant, where one was read, and its terms
+-- its constant, if one was read, and its terms
 pub record SumParts : Type 0 where
   pub constant : Option ℤ
   pub terms : List Term

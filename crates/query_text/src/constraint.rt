@@ -1,4 +1,4 @@
-//! Constraints.
+//! Reads the constraints of a query. `read` uses it. `at` is the location that a refusal names.
 ghost use Rattle.std.specs.Prelude.{◌≡◌, ◌≤◌, ◌<◌, ◌^◌, length, map, option_map, All, IfOk};
 ghost use Rattle.query_model.specs.declared.parts.Agg.{Agg};
 ghost use Rattle.query_model.specs.Rules.{IsFraction, IsWhole, IsConstraint};
@@ -7,40 +7,39 @@ ghost use Rattle.query_text.specs.Reads.{Gives};
 ghost use Rattle.query_text.specs.Walk as walk;
 
 use crate::expression::read_expr;
-use crate::json_parts::{items_in, numbers_of};
+use crate::json_array::{items_in, numbers_of};
 use crate::keys::read_object;
-use crate::named::{agg_named, compare_named, region_named};
-use crate::names::read_text;
+use crate::lookup::{agg_named, compare_named, region_named};
 use crate::number::{read_number, read_whole, whole_between};
-use crate::{Place, QueryFault, QueryRefusal};
+use crate::text::read_text;
+use crate::{Field, Location, Part, QueryFault, QueryRefusal};
 use query_model::{Agg, Compare, Constraint, Fraction, Region, Variable};
 use serde_json::Value;
 use std::alloc::Global;
 
-/// How far the number of an aggregate constraint is from 0 at most.
+/// 2^52, the largest absolute value that an aggregate is compared with.
 const MOST_AGGREGATE: u64 = 4503599627370496;
 
-/// How far the number of a linear constraint is from 0 at most.
+/// 2^31, the largest absolute value that an expression is compared with.
 const MOST_LINEAR: u64 = 2147483648;
 
-/// How large the lower number of a fraction is at most.
+/// 2^20, the largest q of a fraction p / q.
 const MOST_DENOMINATOR: i64 = 1048576;
 
-/// The aggregate that a value names, or what is wrong.
-fn read_agg(value: &Value, at: Place) -> Result<Agg, QueryRefusal>
+fn read_agg(value: &Value, at: Location) -> Result<Agg, QueryRefusal>
     ensures { result ≡ walk.walk_agg at (view value.now) }
 {
     let text = read_text(Some(value), at)?;
     match agg_named(text) {
         Some(agg) => Ok(agg),
-        None => Err(QueryRefusal::Name { place: at }),
+        None => Err(QueryRefusal::Name { location: at }),
     }
 }
 
-/// The number of the region that a value names, or what is wrong.
+/// The index, from 0, of the region that a member names.
 fn read_region_name(
     regions: &[Region],
-    at: Place,
+    at: Location,
     found: Option<&Value>,
 ) -> Result<u8, QueryRefusal>
     requires { length regions.now ≤ 16 }
@@ -50,39 +49,38 @@ fn read_region_name(
     let text = read_text(found, at)?;
     match region_named(text, regions) {
         Some(region) => Ok(region as u8),
-        None => Err(QueryRefusal::Unbound { place: at }),
+        None => Err(QueryRefusal::Unbound { location: at }),
     }
 }
 
-/// The comparison that a value names, or what is wrong.
-fn read_compare(found: Option<&Value>, at: Place) -> Result<Compare, QueryRefusal>
+fn read_compare(found: Option<&Value>, at: Location) -> Result<Compare, QueryRefusal>
     ensures { result ≡ walk.walk_compare at (option_map (λ v. view v.now) found.entry) }
 {
     let text = read_text(found, at)?;
     match compare_named(text) {
         Some(compare) => Ok(compare),
-        None => Err(QueryRefusal::Name { place: at }),
+        None => Err(QueryRefusal::Name { location: at }),
     }
 }
 
-/// The fraction of these two values, or what is wrong.
+/// The items of a list `[p, q]` as the fraction p / q.
 #[tactic(auto, unfolding(crate::specs::Walk::walk_pair))]
-fn read_pair(items: &[Value], at: Place) -> Result<Fraction, QueryRefusal>
+fn read_pair(items: &[Value], at: Location) -> Result<Fraction, QueryRefusal>
     ensures walk { result ≡ walk.walk_pair at (map view items.now) }
     ensures rules { IfOk result (IsFraction (IsWhole Agg.Avg)) }
 {
     let Some((upper, lower)) = numbers_of(items) else {
-        return Err(QueryRefusal::Shape { place: at });
+        return Err(QueryRefusal::Shape { location: at });
     };
     let p = read_whole(upper, MOST_AGGREGATE, at)?;
     match whole_between(1, MOST_DENOMINATOR, lower) {
         Some(q) => Ok(Fraction { p, q }),
-        None => Err(QueryRefusal::Number { place: at }),
+        None => Err(QueryRefusal::Number { location: at }),
     }
 }
 
-/// The whole number at a place as a fraction, or what is wrong.
-fn read_whole_fraction(found: Option<&Value>, at: Place) -> Result<Fraction, QueryRefusal>
+/// A whole number p as the fraction p / 1.
+fn read_whole_fraction(found: Option<&Value>, at: Location) -> Result<Fraction, QueryRefusal>
     ensures walk { result ≡ walk.walk_whole_fraction at (option_map (λ v. view v.now) found.entry) }
     ensures rules { (agg : Agg) → IfOk result (IsFraction (IsWhole agg)) }
 {
@@ -90,8 +88,8 @@ fn read_whole_fraction(found: Option<&Value>, at: Place) -> Result<Fraction, Que
     Ok(Fraction { p, q: 1 })
 }
 
-/// What an average is compared with: a whole number or a fraction, or what is wrong.
-fn read_average(found: Option<&Value>, at: Place) -> Result<Fraction, QueryRefusal>
+/// What an average is compared with: a whole number or a list `[p, q]`.
+fn read_average(found: Option<&Value>, at: Location) -> Result<Fraction, QueryRefusal>
     ensures walk { result ≡ walk.walk_average at (option_map (λ v. view v.now) found.entry) }
     ensures rules { IfOk result (IsFraction (IsWhole Agg.Avg)) }
 {
@@ -103,9 +101,8 @@ fn read_average(found: Option<&Value>, at: Place) -> Result<Fraction, QueryRefus
     read_whole_fraction(found, at)
 }
 
-/// What an aggregate is compared with, or what is wrong.
 #[tactic(auto, unfolding(crate::specs::Walk::walk_fraction))]
-fn read_fraction(agg: Agg, found: Option<&Value>, at: Place) -> Result<Fraction, QueryRefusal>
+fn read_fraction(agg: Agg, found: Option<&Value>, at: Location) -> Result<Fraction, QueryRefusal>
     ensures walk { result ≡ walk.walk_fraction agg at (option_map (λ v. view v.now) found.entry) }
     ensures rules { IfOk result (IsFraction (IsWhole agg)) }
 {
@@ -115,7 +112,7 @@ fn read_fraction(agg: Agg, found: Option<&Value>, at: Place) -> Result<Fraction,
     }
 }
 
-/// The constraint on an aggregate that a value stands for, or what is wrong.
+/// The i-th constraint, from 1, which has the member `agg`.
 #[tactic(auto, unfolding(crate::specs::Walk::walk_aggregate))]
 fn read_aggregate(
     variables: &[Variable],
@@ -130,13 +127,15 @@ fn read_aggregate(
 {
     if value.get("expr").is_some() {
         return Err(QueryRefusal::Shape {
-            place: Place::constraint_expr(i),
+            location: Location::field(Field::ConstraintExpr, i),
         });
     }
-    let agg = read_agg(agg, Place::constraint_agg(i))?;
-    let region = read_region_name(regions, Place::constraint_of(i), value.get("of"))?;
-    let compare = read_compare(value.get("cmp"), Place::constraint_cmp(i))?;
-    let to = read_fraction(agg, value.get("to"), Place::constraint_to(i))?;
+    let agg = read_agg(agg, Location::field(Field::ConstraintAgg, i))?;
+    let of_at = Location::field(Field::ConstraintOf, i);
+    let to_at = Location::field(Field::ConstraintTo, i);
+    let region = read_region_name(regions, of_at, value.get("of"))?;
+    let compare = read_compare(value.get("cmp"), Location::field(Field::ConstraintCmp, i))?;
+    let to = read_fraction(agg, value.get("to"), to_at)?;
     Ok(Constraint::Aggregate {
         agg,
         region,
@@ -145,7 +144,7 @@ fn read_aggregate(
     })
 }
 
-/// The linear constraint that a value stands for, or what is wrong.
+/// The i-th constraint, from 1, which has no member `agg`.
 #[tactic(auto, unfolding(crate::specs::Walk::walk_linear))]
 fn read_linear(
     variables: &[Variable],
@@ -159,21 +158,22 @@ fn read_linear(
 {
     if value.get("of").is_some() {
         return Err(QueryRefusal::Shape {
-            place: Place::constraint_of(i),
+            location: Location::field(Field::ConstraintOf, i),
         });
     }
     let Some(found) = value.get("expr") else {
         return Err(QueryRefusal::Shape {
-            place: Place::constraint_expr(i),
+            location: Location::field(Field::ConstraintExpr, i),
         });
     };
-    let expr = read_expr(variables, found, Place::constraint_expr(i))?;
-    let compare = read_compare(value.get("cmp"), Place::constraint_cmp(i))?;
-    let to = read_number(value.get("to"), MOST_LINEAR, Place::constraint_to(i))?;
+    let expr = read_expr(variables, found, Location::field(Field::ConstraintExpr, i))?;
+    let compare = read_compare(value.get("cmp"), Location::field(Field::ConstraintCmp, i))?;
+    let to_at = Location::field(Field::ConstraintTo, i);
+    let to = read_number(value.get("to"), MOST_LINEAR, to_at)?;
     Ok(Constraint::Linear { expr, compare, to })
 }
 
-/// The i-th constraint, which a value stands for, or what is wrong.
+/// The i-th constraint, from 1.
 #[tactic(auto, unfolding(crate::specs::Walk::walk_constraint))]
 fn read_constraint(
     variables: &[Variable],
@@ -189,7 +189,7 @@ fn read_constraint(
     read_object(
         value,
         &["agg", "of", "expr", "cmp", "to"],
-        Place::constraint(i),
+        Location::item(Part::Constraints, i),
     )?;
     match value.get("agg") {
         Some(agg) => read_aggregate(variables, regions, i, agg, value),
@@ -197,7 +197,7 @@ fn read_constraint(
     }
 }
 
-/// The constraints that these values stand for, or what is wrong. Source: own.
+/// The constraints of these items, over the variables and the regions.
 pub fn read_constraints(
     alloc: Global,
     variables: &[Variable],

@@ -1,14 +1,14 @@
-//! Why a query is not read.
+//! Why `read_query` gives no query: a refusal, or out of memory.
 ghost use Rattle.std.specs.Prelude.{◌≡◌};
 ghost use Rattle.query_text.specs.declared.fault.QueryFault.TheVariants.{Refused, NoMemory};
 
 use crate::QueryRefusal;
 use std::alloc::AllocFailed;
 
-/// Why a query was not read. Source: own.
+/// Why a query was not read.
 #[derive(Clone, Copy, Debug, PartialEq, Eq)]
 pub enum QueryFault {
-    /// The bytes show it.
+    /// The bytes hold no query that is accepted.
     Refused(QueryRefusal),
     /// Memory ran out.
     NoMemory,

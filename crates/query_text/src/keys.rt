@@ -1,4 +1,4 @@
-//! The keys of objects.
+//! The keys of JSON objects. `variable`, `region`, `constraint` and `read` use it.
 ghost use Rattle.std.specs.Prelude.{◌≡◌, map};
 ghost use Rattle.std.specs.List.{list_any};
 ghost use Rattle.std.specs.Str.{bytes_eq};
@@ -6,33 +6,31 @@ ghost use Rattle.serde_json.specs.View.{view, members_view};
 ghost use Rattle.query_text.specs.Json.{has_only};
 ghost use Rattle.query_text.specs.Walk.{walk_object};
 
-use crate::{Place, QueryRefusal};
+use crate::{Location, QueryRefusal};
 use serde_json::{Map, Value};
 
-/// Whether a key is one of these.
 fn is_known(key: &str, known: &[&str]) -> bool
     ensures { result ≡ list_any (bytes_eq key.now) (map (λ k. k.now) known.now) }
 {
     known.iter().any(|k| key == *k)
 }
 
-/// Whether every key is one of these.
 fn has_only(members: &Map<String, Value>, known: &[&str]) -> bool
     ensures { result ≡ has_only (map (λ k. k.now) known.now) (members_view members.now.entries) }
 {
     members.keys().all(|key| is_known(key.as_str(), known))
 }
 
-/// That a value is an object with none but these keys, or what is wrong. Source: own.
-pub fn read_object(value: &Value, known: &[&str], at: Place) -> Result<(), QueryRefusal>
+/// Refuses a value that is not an object by `Shape`, and a key that is not `known` by `UnknownKey`.
+pub fn read_object(value: &Value, known: &[&str], at: Location) -> Result<(), QueryRefusal>
     ensures { result ≡ walk_object (map (λ k. k.now) known.now) at (view value.now) }
 {
     let Some(members) = value.as_object() else {
-        return Err(QueryRefusal::Shape { place: at });
+        return Err(QueryRefusal::Shape { location: at });
     };
     if has_only(members, known) {
         Ok(())
     } else {
-        Err(QueryRefusal::UnknownKey { place: at })
+        Err(QueryRefusal::UnknownKey { location: at })
     }
 }

@@ -1,4 +1,4 @@
-//! How the walk over a query goes with the form of queries.
+//! Laws that connect the walk over a query with the form of queries.
 
 ghost use Rattle.std.specs.Prelude.{◌≡◌, ℕ};
 ghost use Rattle.serde_json.specs.Data.{Data};
@@ -9,17 +9,17 @@ ghost use Rattle.query_text.specs.Form.{query_form};
 ghost use Rattle.query_text.specs.Limits.{IsLimit};
 ghost use Rattle.query_text.specs.Walk.{walk_query};
 
-/// A query that the walk reads is the one that the value stands for. Source: own.
+/// A query that the walk reads is the one that the value stands for.
 pub fn accepted_queries_have_the_form()
     ensures { (rank : ℕ) (d : Data) (q : QueryParts) → walk_query rank d ≡ Ok q → query_form rank d ≡ Some q }
 {}
 
-/// Where a value stands for a query, the walk refuses it for no other reason than a limit. Source: own.
+/// Where a value stands for a query, the walk refuses it for no other reason than a limit.
 pub fn only_limits_refuse_the_form()
     ensures { (rank : ℕ) (d : Data) (q : QueryParts) (r : QueryRefusal) → query_form rank d ≡ Some q → walk_query rank d ≡ Err r → IsLimit r }
 {}
 
-/// Where a value stands for a query that keeps the rules, the walk reads that query. Source: own.
+/// Where a value stands for a query that keeps the rules, the walk reads that query.
 pub fn forms_within_the_limits_are_accepted()
     ensures { (rank : ℕ) (d : Data) (q : QueryParts) → query_form rank d ≡ Some q → IsQuery q → walk_query rank d ≡ Ok q }
 {}

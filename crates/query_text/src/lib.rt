@@ -1,28 +1,30 @@
 //! Queries as JSON text. `read_query` gives the query that the bytes of a file stand for, or exactly the first
-//! refusal of a walk over it, with the place in the query.
+//! refusal of a walk over it, with the location in the query, or says that memory ran out.
 //! Definitions: `specs/Walk` (the walk, step by step), `specs/Form` (which JSON value stands for which query),
-//! `specs/Places`, `specs/Reads` (what reading answers). In `src/laws.rt` stands how the walk goes with the form.
-//! What JSON is, `serde_json` says.
+//! `specs/Locations` (where a refusal is), `specs/Reads` (what reading may answer). The laws in `src/laws.rt`
+//! connect the walk and the form.
+//! It stands on `query_model` (what a query is) and `serde_json` (what JSON is). `search_run` uses it.
 #![tactic(auto)]
 
-pub mod constraint;
-pub mod expression;
-pub mod fault;
-pub mod json_parts;
-pub mod keys;
+mod constraint;
+mod expression;
+mod fault;
+mod json_array;
+mod keys;
 pub mod laws;
-pub mod named;
-pub mod names;
-pub mod number;
-pub mod parts;
-pub mod place;
-pub mod read;
-pub mod refusal;
-pub mod region;
-pub mod sum;
-pub mod variable;
+mod location;
+mod lookup;
+mod number;
+mod part_items;
+mod points;
+mod read;
+mod refusal;
+mod region;
+mod sum;
+mod text;
+mod variable;
 
 pub use crate::fault::QueryFault;
-pub use crate::place::Place;
+pub use crate::location::{Field, Location, Part};
 pub use crate::read::{MOST_QUERY_BYTES, read_query};
 pub use crate::refusal::QueryRefusal;

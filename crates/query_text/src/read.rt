@@ -1,4 +1,4 @@
-//! Reading a query.
+//! Reads a query: its parts in their order, and then the limit on its points. `search_run` calls `read_query`.
 ghost use Rattle.std.specs.Prelude.{◌≡◌, ◌≤◌, length, map, IfOk};
 ghost use Rattle.serde_json.specs.View.{view};
 ghost use Rattle.query_text.specs.Lists.{AreVariables, AreRegions};
@@ -7,29 +7,28 @@ ghost use Rattle.query_text.specs.Walk as walk;
 
 use crate::constraint::read_constraints;
 use crate::keys::read_object;
-use crate::parts::{assignments_of, read_part, read_variables_part};
+use crate::part_items::{read_part, read_variables_part};
+use crate::points::point_count;
 use crate::region::read_regions;
 use crate::variable::read_variables;
-use crate::{Place, QueryFault, QueryRefusal};
+use crate::{Location, Part, QueryFault, QueryRefusal};
 use query_model::{Query, Region, Variable};
 use serde_json::Value;
 use std::alloc::Global;
 
-/// How many bytes a query has at most. Source: own.
+/// 2^20, the largest size of a query file in bytes.
 pub const MOST_QUERY_BYTES: usize = 1048576;
 
-/// How many regions a query has at most.
 const MOST_REGIONS: usize = 16;
 
-/// How many constraints a query has at most.
 const MOST_CONSTRAINTS: usize = 64;
 
-/// How many assignments a query has at most.
-const MOST_ASSIGNMENTS: u64 = 4611686018427387904;
+/// 2^62.
+const MOST_POINTS: u64 = 4611686018427387904;
 
-/// The query of these variables and regions, and of the items of its constraints, or what is wrong.
-#[tactic(auto, unfolding(crate::specs::Walk::walk_last))]
-fn read_last(
+/// The query with these variables and regions, and with the constraints of these items.
+#[tactic(auto, unfolding(crate::specs::Walk::walk_query_over))]
+fn read_query_over(
     alloc: Global,
     rank: u8,
     variables: Vec<Variable>,
@@ -41,18 +40,18 @@ fn read_last(
     requires regions { AreRegions rank (length variables.items) regions.items }
     requires items { length items.now ≤ 64 }
     ensures { Gives (λ q. q)
-        (walk.walk_last rank variables.items regions.items (map view items.now)) result }
+        (walk.walk_query_over rank variables.items regions.items (map view items.now)) result }
 {
     let constraints = read_constraints(alloc, variables.as_slice(), regions.as_slice(), items)?;
-    if assignments_of(variables.as_slice()) > MOST_ASSIGNMENTS {
+    if point_count(variables.as_slice()) > MOST_POINTS {
         return Err(QueryFault::Refused(QueryRefusal::TooLarge));
     }
     Ok(Query::new(rank, variables, regions, constraints))
 }
 
-/// The query of the items of its parts, or what is wrong.
-#[tactic(auto, unfolding(crate::specs::Walk::walk_all))]
-fn read_all(
+/// The query whose parts have these items.
+#[tactic(auto, unfolding(crate::specs::Walk::walk_parts))]
+fn read_parts(
     alloc: Global,
     rank: u8,
     variables: &[Value],
@@ -63,15 +62,15 @@ fn read_all(
     requires variables { (1 ≤ length variables.now) × (length variables.now ≤ 8) }
     requires regions { length regions.now ≤ 16 }
     requires constraints { length constraints.now ≤ 64 }
-    ensures { Gives (λ q. q) (walk.walk_all rank
+    ensures { Gives (λ q. q) (walk.walk_parts rank
         (map view variables.now) (map view regions.now) (map view constraints.now)) result }
 {
     let variables = read_variables(alloc, variables)?;
     let regions = read_regions(alloc, rank, variables.as_slice(), regions)?;
-    read_last(alloc, rank, variables, regions, constraints)
+    read_query_over(alloc, rank, variables, regions, constraints)
 }
 
-/// The query that a value stands for, or what is wrong.
+/// The query of a JSON value.
 #[tactic(auto, unfolding(crate::specs::Walk::walk_query))]
 fn read_value(alloc: Global, rank: u8, value: &Value) -> Result<Query, QueryFault>
     requires { (1 ≤ rank) × (rank ≤ 3) }
@@ -80,22 +79,20 @@ fn read_value(alloc: Global, rank: u8, value: &Value) -> Result<Query, QueryFaul
     read_object(
         value,
         &["variables", "regions", "constraints"],
-        Place::query(),
+        Location::query(),
     )?;
     let variables = read_variables_part(value.get("variables"))?;
-    let regions = read_part(value.get("regions"), MOST_REGIONS, Place::regions())?;
-    let constraints = read_part(
-        value.get("constraints"),
-        MOST_CONSTRAINTS,
-        Place::constraints(),
-    )?;
-    read_all(alloc, rank, variables, regions, constraints)
+    let regions_at = Location::part(Part::Regions);
+    let regions = read_part(value.get("regions"), MOST_REGIONS, regions_at)?;
+    let constraints_at = Location::part(Part::Constraints);
+    let constraints = read_part(value.get("constraints"), MOST_CONSTRAINTS, constraints_at)?;
+    read_parts(alloc, rank, variables, regions, constraints)
 }
 
-/// Reads the query in bytes that are not too many.
+/// The query of these bytes, however many they are.
 fn read_short_query(alloc: Global, bytes: &[u8], rank: u8) -> Result<Query, QueryFault>
     requires { (1 ≤ rank) × (rank ≤ 3) }
-    ensures { Gives (λ q. q) (walk.walk_text_of rank bytes.now) result }
+    ensures { Gives (λ q. q) (walk.walk_bytes rank bytes.now) result }
 {
     match Value::from_slice(alloc, bytes) {
         Ok(value) => read_value(alloc, rank, &value),
@@ -109,8 +106,8 @@ fn read_short_query(alloc: Global, bytes: &[u8], rank: u8) -> Result<Query, Quer
     }
 }
 
-/// Reads the query that a file with these bytes holds, for arrays of a rank. `Refused` exactly where the walk
-/// refuses it, with its first refusal, and `NoMemory` where memory ran out. Source: own.
+/// The query that a file with these bytes holds, for arrays of this rank. `Refused` has the first refusal of the walk
+/// over it. `NoMemory` says that memory ran out.
 pub fn read_query(alloc: Global, bytes: &[u8], rank: u8) -> Result<Query, QueryFault>
     requires { (1 ≤ rank) × (rank ≤ 3) }
     ensures walk { Gives (λ q. q) (walk.walk rank bytes.now) result }

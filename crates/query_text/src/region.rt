@@ -1,30 +1,30 @@
-//! Regions.
+//! Reads the regions of a query. `read` uses it. `at` is the location that a refusal names.
 ghost use Rattle.std.specs.Prelude.{◌≡◌, ◌≢◌, ◌≤◌, ◌<◌, ◌-◌, length, map, drop, replicate, pos, option_map, is_some, All, IfOk};
 ghost use Rattle.query_model.specs.NameForm.{IsName};
 ghost use Rattle.query_model.specs.Rules.{IsExpr, IsRegion, constant_expr};
 ghost use Rattle.query_model.specs.declared.parts.Region.{Region};
 ghost use Rattle.serde_json.specs.View.{view};
 ghost use Rattle.query_text.specs.Lists.{AreRegions};
-ghost use Rattle.query_text.specs.Named as named;
+ghost use Rattle.query_text.specs.Lookup as lookup;
 ghost use Rattle.query_text.specs.Reads.{Gives};
 ghost use Rattle.query_text.specs.Walk as walk;
 
 use crate::expression::read_expr;
-use crate::json_parts::items_in;
+use crate::json_array::items_in;
 use crate::keys::read_object;
-use crate::named::region_named;
-use crate::names::{name_of, read_name};
+use crate::lookup::region_named;
 use crate::sum::constant;
-use crate::{Place, QueryFault, QueryRefusal};
+use crate::text::read_name;
+use crate::{Field, Location, Part, QueryFault, QueryRefusal};
 use query_model::{Expr, Name, Region, Variable};
 use serde_json::Value;
 use std::alloc::Global;
 
-/// The expressions that these values stand for, and a number in each dimension behind them, or what is wrong.
+/// The expressions of these items, and the constant `rest` in each further dimension.
 fn read_each_dimension(
     variables: &[Variable],
     items: &[Value],
-    at: Place,
+    at: Location,
     rest: u8,
 ) -> Result<[Expr; 3], QueryRefusal>
     requires variables { length variables.now ≤ 8 }
@@ -43,13 +43,14 @@ fn read_each_dimension(
     Ok(exprs)
 }
 
-/// The expression of each dimension, and a number in each one that is not used, or what is wrong.
+/// The expressions of a member, one for each dimension of the array, and the constant `rest` in each further
+/// dimension. `region` is the number of the region, from 1.
 #[tactic(auto, unfolding(crate::specs::Walk::walk_dimensions))]
 fn read_dimensions(
     rank: u8,
     variables: &[Variable],
     region: u32,
-    at: Place,
+    at: Location,
     found: Option<&Value>,
     rest: u8,
 ) -> Result<[Expr; 3], QueryRefusal>
@@ -63,10 +64,10 @@ fn read_dimensions(
         drop rank exprs ≡ replicate (3 - rank) (constant_expr (pos rest))) }
 {
     let Some(value) = found else {
-        return Err(QueryRefusal::Shape { place: at });
+        return Err(QueryRefusal::Shape { location: at });
     };
     let Some(items) = items_in(value) else {
-        return Err(QueryRefusal::Shape { place: at });
+        return Err(QueryRefusal::Shape { location: at });
     };
     if items.len() != rank as usize {
         return Err(QueryRefusal::Dimensions {
@@ -77,21 +78,25 @@ fn read_dimensions(
     read_each_dimension(variables, items, at, rest)
 }
 
-/// The name at a place, which none of these regions has, or what is wrong.
-fn read_new_name(before: &[Region], found: Option<&Value>, at: Place) -> Result<Name, QueryRefusal>
-    ensures walk { result ≡ walk.walk_new_name (λ text. is_some (named.region_named text before.now))
+/// The name of a member. One that a region before has is `Repeated`.
+fn read_new_name(
+    before: &[Region],
+    found: Option<&Value>,
+    at: Location,
+) -> Result<Name, QueryRefusal>
+    ensures walk { result ≡ walk.walk_new_name (λ text. is_some (lookup.region_named text before.now))
         at (option_map (λ v. view v.now) found.entry) }
     ensures form { IfOk result IsName }
     ensures new { IfOk result (λ name. All (λ (r : Region). r.name ≢ name) before.now) }
 {
     let text = read_name(found, at)?;
     match region_named(text, before) {
-        Some(_) => Err(QueryRefusal::Repeated { place: at }),
-        None => Ok(name_of(text.as_bytes())),
+        Some(_) => Err(QueryRefusal::Repeated { location: at }),
+        None => Ok(Name::from_bytes(text.as_bytes())),
     }
 }
 
-/// The region that a value stands for, behind these, or what is wrong.
+/// The region that comes after these.
 #[tactic(auto, unfolding(crate::specs::Walk::walk_region))]
 fn read_region(
     rank: u8,
@@ -107,15 +112,24 @@ fn read_region(
     ensures new { IfOk result (λ r. All (λ (s : Region). s.name ≢ r.name) before.now) }
 {
     let i = before.len() as u32 + 1;
-    read_object(value, &["name", "at", "length"], Place::region(i))?;
-    let name = read_new_name(before, value.get("name"), Place::region_name(i))?;
-    let at = read_dimensions(rank, variables, i, Place::region_at(i), value.get("at"), 0)?;
-    let length_at = Place::region_length(i);
+    let item_at = Location::item(Part::Regions, i);
+    read_object(value, &["name", "at", "length"], item_at)?;
+    let name_at = Location::field(Field::RegionName, i);
+    let name = read_new_name(before, value.get("name"), name_at)?;
+    let at = read_dimensions(
+        rank,
+        variables,
+        i,
+        Location::field(Field::RegionAt, i),
+        value.get("at"),
+        0,
+    )?;
+    let length_at = Location::field(Field::RegionLength, i);
     let length = read_dimensions(rank, variables, i, length_at, value.get("length"), 1)?;
     Ok(Region { name, at, length })
 }
 
-/// The regions that these values stand for, or what is wrong. Source: own.
+/// The regions of these items, for arrays of this rank and over the variables.
 pub fn read_regions(
     alloc: Global,
     rank: u8,

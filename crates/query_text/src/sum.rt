@@ -1,6 +1,6 @@
-//! A sum of a constant and terms, as far as it has been read.
+//! The sum of an expression, as far as it was read. `expression` uses it.
 ghost use Rattle.std.specs.Prelude.{◌≡◌, ◌<◌, ◌^◌, ℕ, length};
-ghost use Rattle.grid_cells.specs.Numbers.{IsWithin};
+ghost use Rattle.lists.specs.Numbers.{IsWithin};
 ghost use Rattle.query_model.specs.Rules.{IsExpr, constant_expr};
 ghost use Rattle.query_text.specs.Sums.{empty_sum, with_constant, with_term, has_term, expr_of};
 
@@ -9,7 +9,7 @@ use std::marker::Model;
 
 const NO_TERM: Term = Term { factor: 0, var: 0 };
 
-/// A whole number alone. Source: own.
+/// A whole number as an expression.
 pub fn constant(n: i64) -> Expr
     requires { IsWithin n (2 ^ 31) }
     ensures constant { result ≡ constant_expr n }
@@ -22,7 +22,7 @@ pub fn constant(n: i64) -> Expr
     }
 }
 
-/// A constant, where one was read, and up to 8 terms, in the order in which they were read. Source: own.
+/// A constant, if one was read, and up to 8 terms, in the order in which they were read.
 #[derive(Drop)]
 pub struct Sum {
     constant: Option<i64>,
@@ -43,7 +43,6 @@ impl Model for Sum {
 }
 
 impl Sum {
-    /// No constant and no term. Source: own.
     pub fn new() -> Sum
         ensures { result ≡ empty_sum }
     {
@@ -54,14 +53,13 @@ impl Sum {
         }
     }
 
-    /// The constant, where one was read. Source: own.
     pub fn constant(&self) -> Option<i64>
         ensures { result ≡ self.now.constant }
     {
         self.constant
     }
 
-    /// Whether it has a term of a variable. Source: own.
+    /// Whether there is a term of this variable.
     pub fn has_term(&self, var: u8) -> bool
         ensures { result ≡ has_term var self.now }
     {
@@ -70,14 +68,13 @@ impl Sum {
             .any(|t| t.var == var)
     }
 
-    /// Sets the constant. Source: own.
     pub fn set_constant(&mut self, constant: i64)
         ensures { self.new ≡ with_constant constant self.old }
     {
         self.constant = Some(constant);
     }
 
-    /// Puts a term behind the others. Source: own.
+    /// Appends a term.
     pub fn push(&mut self, term: Term)
         requires { length self.old.terms < 8 }
         ensures { self.new ≡ with_term term self.old }
@@ -86,7 +83,7 @@ impl Sum {
         self.count += 1;
     }
 
-    /// The expression that it is. Source: own.
+    /// The sum as an expression. A constant that was not read is 0.
     pub fn expr(&self) -> Expr
         ensures { result ≡ expr_of self.now }
     {

@@ -1,5 +1,5 @@
 pub mod Lines
 pub mod Packing
 pub mod Endings
-pub mod Telling
+pub mod InfoText
 pub mod Statuses

@@ -1,4 +1,4 @@
--- Lines of fields with a space between each two.
+-- Lines of fields with a space between each two. Used by the line of a solution.
 use Rattle.std.proofs.Common.{rules, ◌≡◌, ℕ, Bool, false, zero, suc, ◌+◌, ◌<◌, ◌==◌, List, [], ◌∷◌, ◌++◌, length, take, get_or, pos, if◌then◌else◌, refl, sym, ap, ◌∙◌, add-one, append_assoc, arith, codes}
 use Rattle.std.specs.List.{join_with_byte}
 use Rattle.query_model.specs.Text.{field_of, fields_of}
@@ -9,10 +9,10 @@ use Rattle.domains.specs.Points.{Point}
 abbrev pub joined : ℕ → List Variable → Point → List ℕ
 joined i vs p = join_with_byte 32 (fields_of (take i vs) p)
 
--- what stands before a line stays there
-behind : (front rest next line : List ℕ) → (rest ++ (32 ∷ [])) ++ next ≡ line → ((front ++ (32 ∷ rest)) ++ (32 ∷ [])) ++ next ≡ front ++ (32 ∷ line)
-behind front rest next line h =
-    ap (λ l. l ++ next) (append_assoc front (32 ∷ rest) (32 ∷ [])) ∙ append_assoc front ((32 ∷ rest) ++ (32 ∷ [])) next ∙ ap (λ l. front ++ (32 ∷ l)) h
+-- one field more after a text is one field more after its last part
+more_after : (text rest next line : List ℕ) → (rest ++ (32 ∷ [])) ++ next ≡ line → ((text ++ (32 ∷ rest)) ++ (32 ∷ [])) ++ next ≡ text ++ (32 ∷ line)
+more_after text rest next line h =
+    ap (λ l. l ++ next) (append_assoc text (32 ∷ rest) (32 ∷ [])) ∙ append_assoc text ((32 ∷ rest) ++ (32 ∷ [])) next ∙ ap (λ l. text ++ (32 ∷ l)) h
 
 -- one field more, by cases
 more_suc : (vs : List Variable) (p : Point) (d : Variable) (i : ℕ) → length p ≡ length vs → suc i < length vs
@@ -23,7 +23,7 @@ more_suc (v ∷ w ∷ vs) [] d i same h = absurd (omega arith)
 more_suc (v ∷ w ∷ vs) (x ∷ []) d i same h = absurd (omega arith)
 more_suc (v ∷ w ∷ vs) (x ∷ y ∷ p) d zero same h = append_assoc (field_of v x) (32 ∷ []) (field_of w y)
 more_suc (v ∷ w ∷ vs) (x ∷ y ∷ p) d (suc i) same h =
-    behind (field_of v x) (joined (suc i) (w ∷ vs) (y ∷ p)) (field_of (get_or (w ∷ vs) (suc i) d) (get_or (y ∷ p) (suc i) (pos 0))) (joined (suc (suc i)) (w ∷ vs) (y ∷ p))
+    more_after (field_of v x) (joined (suc i) (w ∷ vs) (y ∷ p)) (field_of (get_or (w ∷ vs) (suc i) d) (get_or (y ∷ p) (suc i) (pos 0))) (joined (suc (suc i)) (w ∷ vs) (y ∷ p))
     (more_suc (w ∷ vs) (y ∷ p) d i (omega arith) (omega arith))
 
 more_first : (vs : List Variable) (p : Point) (d : Variable) → length p ≡ length vs → 0 < length vs → field_of (get_or vs 0 d) (get_or p 0 (pos 0)) ≡ joined 1 vs p

@@ -1,9 +1,9 @@
--- What packing answers and leaves.
+-- What the command `pack` answers and prints.
 use Rattle.std.proofs.Common.{◌≡◌, ℕ, ◌^◌, ◌<◌, nat_lt, true, cond, arith, length, MatchOption, List, [], Option, Some, None, Err, option_map, sym, ap, ◌∙◌}
 use Rattle.std.proofs.lemmas.Bool.{lt-ltb}
 use Rattle.source_io.specs.Told.{SizeIs}
 use Rattle.source_io.specs.Files.{Files}
-use Rattle.source_io.proofs.Writing.{front_nothing, appended-nil}
+use Rattle.lists.proofs.Appending.{prefix_nothing, appended-nil}
 use Rattle.array_text.specs.Words.{words}
 use Rattle.array_text.specs.Walk.{stated_array, read_words}
 use Rattle.array_text.specs.declared.fault.TextRefusal.TheVariants.{TooLong}
@@ -28,8 +28,8 @@ prints_no_text held (ArrayRefused r) old = λ i. old
 prints_no_text held (TextRefused r) old = λ i. old
 prints_no_text held (QueryRefused r) old = λ i. old
 prints_no_text None ReadFault old = tt
-prints_no_text (Some files) ReadFault old = front_nothing old []
+prints_no_text (Some files) ReadFault old = prefix_nothing old []
 prints_no_text None WriteFault old = tt
-prints_no_text (Some files) WriteFault old = front_nothing old []
+prints_no_text (Some files) WriteFault old = prefix_nothing old []
 prints_no_text None NoMemory old = tt
-prints_no_text (Some files) NoMemory old = front_nothing old []
+prints_no_text (Some files) NoMemory old = prefix_nothing old []

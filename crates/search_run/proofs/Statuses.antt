@@ -1,9 +1,10 @@
--- From an ending to its status, and to what the files and the words determine.
+-- From an ending to its status: what the ending says of the output, the status says too.
+-- Used by the top call.
 use Rattle.std.proofs.Common.{◌≡◌, ℕ, ◌≤◌, List, [], Option, Some, None, inl, inr, sym, ap, ◌∙◌, subst, arith}
-use Rattle.source_io.specs.Written.{AppendsFront}
-use Rattle.source_io.proofs.Writing.{front_whole, front_nothing, front_of_nil, appended-nil}
+use Rattle.lists.specs.Appending.{AppendsPrefix}
+use Rattle.lists.proofs.Appending.{prefix_whole, prefix_nothing, prefix_of_nil, appended-nil}
 use Rattle.search_run.specs.Status.{status_of, message_of}
-use Rattle.search_run.specs.Ends.{EndsAs, Prints, PrintsWhole, PrintsFront, Says, IsStatus}
+use Rattle.search_run.specs.Ends.{EndsAs, Prints, PrintsWhole, PrintsPrefix, Says, IsStatus}
 use Rattle.search_run.specs.declared.ending.Ending.{Ending}
 use Rattle.search_run.specs.declared.ending.Ending.TheVariants.{Done, Usage, ArrayRefused, TextRefused, QueryRefused, ReadFault, WriteFault, NoMemory}
 
@@ -28,26 +29,26 @@ whole_is told ReadFault s old new is h z = absurd (omega arith)
 whole_is told WriteFault s old new is h z = absurd (omega arith)
 whole_is told NoMemory s old new is h z = absurd (omega arith)
 
-unchanged : (old new : Option (List ℕ)) (bytes : List ℕ) → new ≡ old → AppendsFront old bytes new
-unchanged old new bytes e = subst (λ told. AppendsFront old bytes told) (sym e) (front_nothing old bytes)
+unchanged : (old new : Option (List ℕ)) (bytes : List ℕ) → new ≡ old → AppendsPrefix old bytes new
+unchanged old new bytes e = subst (λ told. AppendsPrefix old bytes told) (sym e) (prefix_nothing old bytes)
 
-pub front_is : (told : Option (List ℕ)) (e : Ending) (old new : Option (List ℕ)) → Prints e told old new → PrintsFront told old new
-front_is None Done old new h = tt
-front_is None Usage old new h = tt
-front_is None (ArrayRefused r) old new h = tt
-front_is None (TextRefused r) old new h = tt
-front_is None (QueryRefused r) old new h = tt
-front_is None ReadFault old new h = tt
-front_is None WriteFault old new h = tt
-front_is None NoMemory old new h = tt
-front_is (Some bytes) Done old new h = front_whole old new bytes h
-front_is (Some bytes) Usage old new h = unchanged old new bytes h
-front_is (Some bytes) (ArrayRefused r) old new h = unchanged old new bytes h
-front_is (Some bytes) (TextRefused r) old new h = unchanged old new bytes h
-front_is (Some bytes) (QueryRefused r) old new h = unchanged old new bytes h
-front_is (Some bytes) ReadFault old new h = h
-front_is (Some bytes) WriteFault old new h = h
-front_is (Some bytes) NoMemory old new h = h
+pub prefix_is : (told : Option (List ℕ)) (e : Ending) (old new : Option (List ℕ)) → Prints e told old new → PrintsPrefix told old new
+prefix_is None Done old new h = tt
+prefix_is None Usage old new h = tt
+prefix_is None (ArrayRefused r) old new h = tt
+prefix_is None (TextRefused r) old new h = tt
+prefix_is None (QueryRefused r) old new h = tt
+prefix_is None ReadFault old new h = tt
+prefix_is None WriteFault old new h = tt
+prefix_is None NoMemory old new h = tt
+prefix_is (Some bytes) Done old new h = prefix_whole old new bytes h
+prefix_is (Some bytes) Usage old new h = unchanged old new bytes h
+prefix_is (Some bytes) (ArrayRefused r) old new h = unchanged old new bytes h
+prefix_is (Some bytes) (TextRefused r) old new h = unchanged old new bytes h
+prefix_is (Some bytes) (QueryRefused r) old new h = unchanged old new bytes h
+prefix_is (Some bytes) ReadFault old new h = h
+prefix_is (Some bytes) WriteFault old new h = h
+prefix_is (Some bytes) NoMemory old new h = h
 
 pub silent_is : (told : Option (List ℕ)) (e : Ending) (s : ℕ) (old new : Option (List ℕ)) → s ≡ status_of e → Prints e told old new → 2 ≤ s → s ≤ 4 → new ≡ old
 silent_is told Done s old new is h low high = absurd (omega arith)
@@ -62,7 +63,7 @@ silent_is told NoMemory s old new is h low high = absurd (omega arith)
 -- an empty line says nothing
 says_nothing : (R : Type 0) (old new : Option (List ℕ)) → Says [] R old new → new ≡ old
 says_nothing R old new (inl e) = e ∙ appended-nil old
-says_nothing R old new (inr h) = front_of_nil old new h.1
+says_nothing R old new (inr h) = prefix_of_nil old new h.1
 
 pub quiet_is : (R : Type 0) (e : Ending) (s : ℕ) (old new : Option (List ℕ)) → s ≡ status_of e → Says (message_of e) R old new → s ≡ 0 → new ≡ old
 quiet_is R Done s old new is h z = says_nothing R old new h

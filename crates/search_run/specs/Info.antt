@@ -1,29 +1,30 @@
--- What is told of an array file: its layout, and the record of its cells.
+-- What `info` prints of an array file: its layout, and the record of its cells.
+-- Used by the command `info`.
 use Rattle.std.specs.Prelude.{◌≡◌, ⊤, ℕ, ◌==◌, List, [], ◌++◌, take, filter_map, flat_map, Option, Some, None, MatchOption, Result, Ok, Err, if◌then◌else◌, decimal, codes}
 use Rattle.std.specs.Fmt.{signed_decimal}
 use Rattle.std.specs.List.{range_with_len}
-use Rattle.grid_cells.specs.Array.{Array}
-use Rattle.grid_cells.specs.Chunks.{chunk_count, block_of, level_grid}
-use Rattle.grid_cells.specs.LayoutParts.{LayoutParts}
-use Rattle.grid_cells.specs.Numbers.{product}
-use Rattle.grid_cells.specs.Records.{record_of}
-use Rattle.grid_cells.specs.declared.record.Record.{Record}
+use Rattle.cells.specs.Array.{Array}
+use Rattle.layouts.specs.Chunks.{chunk_count, block_extents, level_grid}
+use Rattle.layouts.specs.declared.numbers.LayoutNumbers.{LayoutNumbers}
+use Rattle.lists.specs.Numbers.{product}
+use Rattle.cells.specs.Records.{record_of}
+use Rattle.cells.specs.declared.record.Record.{Record}
 use Rattle.array_file.specs.Header.{stored_layout}
 use Rattle.array_file.specs.Stored.{refusal_of, stored_array}
 use Rattle.search_run.specs.declared.info.ArrayInfo.{ArrayInfo}
 use Rattle.search_run.specs.declared.ending.Ending.{Ending}
 use Rattle.search_run.specs.declared.ending.Ending.TheVariants.{Done, Usage, ArrayRefused, TextRefused, QueryRefused, ReadFault, WriteFault, NoMemory}
 
--- a number behind a space
+-- a space and a number
 abbrev pub item : ℕ → List ℕ
 item n = codes " " ++ decimal n
 
--- the numbers of the dimensions that are used, each behind a space
+-- a space and a number for each dimension that is used
 abbrev pub items : ℕ → List ℕ → List ℕ
 items rank numbers = flat_map item (take rank numbers)
 
--- the rank, the extents of the array and of a chunk, and how many chunks there are, on a line each
-abbrev pub shape_lines : LayoutParts → List ℕ
+-- the rank, the extents of the array and of a chunk, and how many chunks there are, each on a line
+abbrev pub shape_lines : LayoutNumbers → List ℕ
 shape_lines l =
     codes "rank" ++ item l.rank ++ codes "\n"
     ++ codes "extent" ++ items l.rank l.extents ++ codes "\n"
@@ -31,13 +32,13 @@ shape_lines l =
     ++ codes "chunks" ++ item (chunk_count l) ++ codes "\n"
 
 -- the extents of a block of a level, and how many blocks it has in each dimension
-abbrev pub level_line : LayoutParts → ℕ → List ℕ
+abbrev pub level_line : LayoutNumbers → ℕ → List ℕ
 level_line l level =
-    codes "level" ++ item level ++ codes " block" ++ items l.rank (block_of l level)
+    codes "level" ++ item level ++ codes " block" ++ items l.rank (block_extents l level)
     ++ codes " grid" ++ items l.rank (level_grid l level) ++ codes "\n"
 
 -- the lines of all levels, the finest first
-abbrev pub level_lines : LayoutParts → List ℕ
+abbrev pub level_lines : LayoutNumbers → List ℕ
 level_lines l = flat_map (level_line l) (range_with_len 0 l.levels)
 
 -- the extremes and the sum of a record
@@ -45,18 +46,18 @@ abbrev pub extreme_items : Record → List ℕ
 extreme_items r = codes " least " ++ signed_decimal r.least ++ codes " greatest " ++ signed_decimal r.greatest ++ codes " sum " ++ signed_decimal r.sum
 
 -- how many cells there are, how many of them are present, and what these are where there is one
-abbrev pub cells_line : LayoutParts → Record → List ℕ
+abbrev pub cells_line : LayoutNumbers → Record → List ℕ
 cells_line l r = codes "cells" ++ item (product l.extents) ++ codes " present" ++ item r.count ++ (if r.count == 0 then [] else extreme_items r) ++ codes "\n"
 
 -- all lines of a layout and the record of its array's cells
-abbrev pub info_text : LayoutParts → Record → List ℕ
+abbrev pub info_text : LayoutNumbers → Record → List ℕ
 info_text l r = shape_lines l ++ level_lines l ++ cells_line l r
 
 -- the record of the present cells of an array
 abbrev pub record_of_array : Array → Record
 record_of_array a = record_of (filter_map (λ c. c) a.cells)
 
--- what is told of the array file with these bytes
+-- what `info` prints of the array file with these bytes
 abbrev pub file_info : List ℕ → List ℕ
 file_info bytes = info_text (stored_layout (take 96 bytes)) (record_of_array (stored_array bytes))
 

@@ -1,6 +1,7 @@
 -- What loading an array and a query answers.
+-- Used by the commands that list solutions.
 use Rattle.std.specs.Prelude.{◌≡◌, ℕ, List, Option, Some, None, Result, Ok, Err, MatchOption, ⊤}
-use Rattle.grid_cells.specs.Cells.{array_of}
+use Rattle.cells.specs.Cells.{array_of}
 use Rattle.array_file.specs.Stored.{refusal_of, stored_array}
 use Rattle.query_model.specs.declared.query.Query.{Query}
 use Rattle.query_text.specs.Walk.{walk}
@@ -12,7 +13,7 @@ use Rattle.search_run.specs.declared.ending.Ending.TheVariants.{Done, Usage, Arr
 abbrev pub IsAccepted : Option (List ℕ) → Type 0
 IsAccepted told = MatchOption told ⊤ (λ bytes. refusal_of bytes ≡ None)
 
--- the query is for arrays of this rank, and it is that of the bytes, or the refusal is theirs, where they are told
+-- the query is for arrays of this rank, and it is the one that the bytes state, or the refusal is theirs, where they are told
 abbrev pub LoadsQuery : ℕ → Option (List ℕ) → Result Query Ending → Type 0
 LoadsQuery rank told (Ok q) = (q.rank ≡ rank) × MatchOption told ⊤ (λ bytes. walk rank bytes ≡ Ok q)
 LoadsQuery rank told (Err (QueryRefused r)) = MatchOption told ⊤ (λ bytes. walk rank bytes ≡ Err r)
@@ -48,13 +49,13 @@ LoadsProblem array query (Err WriteFault) = ⊥
 abbrev pub IsTold : Option (List ℕ) → List ℕ → Type 0
 IsTold told bytes = MatchOption told ⊤ (λ all. bytes ≡ all)
 
--- a fault of reading or want of memory
-abbrev pub IsOfReading : Ending → Type 0
-IsOfReading ReadFault = ⊤
-IsOfReading NoMemory = ⊤
-IsOfReading Done = ⊥
-IsOfReading Usage = ⊥
-IsOfReading (ArrayRefused r) = ⊥
-IsOfReading (TextRefused r) = ⊥
-IsOfReading (QueryRefused r) = ⊥
-IsOfReading WriteFault = ⊥
+-- a fault of reading or out of memory
+abbrev pub IsReadFaultOrNoMemory : Ending → Type 0
+IsReadFaultOrNoMemory ReadFault = ⊤
+IsReadFaultOrNoMemory NoMemory = ⊤
+IsReadFaultOrNoMemory Done = ⊥
+IsReadFaultOrNoMemory Usage = ⊥
+IsReadFaultOrNoMemory (ArrayRefused r) = ⊥
+IsReadFaultOrNoMemory (TextRefused r) = ⊥
+IsReadFaultOrNoMemory (QueryRefused r) = ⊥
+IsReadFaultOrNoMemory WriteFault = ⊥

@@ -1,6 +1,6 @@
--- What loading an array text answers.
+-- What loading an array text answers. Used by the command `pack`.
 use Rattle.std.specs.Prelude.{◌≡◌, ℕ, List, length, Option, Result, Ok, Err, MatchOption, ⊤}
-use Rattle.grid_cells.specs.Numbers.{product}
+use Rattle.lists.specs.Numbers.{product}
 use Rattle.array_text.specs.Walk.{stated_array}
 use Rattle.array_text.specs.declared.read.ArrayText.{ArrayText}
 use Rattle.search_run.specs.declared.ending.Ending.{Ending}

@@ -1,16 +1,17 @@
 -- What the words and the files determine: the verdict, the whole output, the file that is made, and the names that are opened.
+-- Used by each command and by the top call. A name that begins with `told` is of files that are told.
 use Rattle.std.specs.Prelude.{ℕ, List, [], ◌∷◌, Option, Some, None, Ok, Err, option_map, String}
 use Rattle.std.specs.Global.{Global}
 use Rattle.std.specs.Option.{option_map_or}
 use Rattle.source_io.specs.Files.{Files, bytes_at}
 use Rattle.clap.specs.Words.{Text}
-use Rattle.command_words.specs.Words.{Command, solo, verify, pack, info, command_in, texts_of}
+use Rattle.command_words.specs.Words.{Command, solo, verify, pack, info, command_in, bytes_of_words}
 use Rattle.array_file.specs.Stored.{refusal_of, stored_array}
 use Rattle.array_file.specs.Written.{array_bytes}
 use Rattle.array_text.specs.Walk.{Walked as TextWalked, stated_array}
-use Rattle.grid_cells.specs.Array.{Array}
-use Rattle.grid_cells.specs.LayoutParts.{LayoutParts}
-use Rattle.grid_cells.specs.declared.cell.Cell.{Cell}
+use Rattle.cells.specs.Array.{Array}
+use Rattle.layouts.specs.declared.numbers.LayoutNumbers.{LayoutNumbers}
+use Rattle.cells.specs.declared.cell.Cell.{Cell}
 use Rattle.query_model.specs.QueryParts.{QueryParts}
 use Rattle.query_model.specs.Text.{text_of}
 use Rattle.query_text.specs.Walk.{Walked, walk}
@@ -20,78 +21,78 @@ use Rattle.search_run.specs.declared.ending.Ending.TheVariants.{Done, Usage, Arr
 
 -- ---- an array file and a query file
 
--- what reading the query gives, for an array of the rank of the array file
-abbrev pub query_on : List ℕ → List ℕ → Walked QueryParts
-query_on array query = walk (stored_array array).rank query
+-- the query that a query file states for arrays of the rank of an array file, or its first refusal
+abbrev pub stated_query : List ℕ → List ℕ → Walked QueryParts
+stated_query array query = walk (stored_array array).rank query
 
--- `Done` where the query is read, and else its refusal
+-- `Done` where a query is read, and otherwise its refusal
 abbrev pub query_verdict : Walked QueryParts → Ending
 query_verdict (Ok q) = Done
 query_verdict (Err r) = QueryRefused r
 
--- the text of a query on an array, and nothing where the query is refused
+-- the lines of the solutions of a query on an array, and none where the query is refused
 abbrev pub query_output : Array → Walked QueryParts → List ℕ
 query_output a (Ok q) = text_of a q
 query_output a (Err r) = []
 
--- the array's refusal, or else the query's, or neither
-abbrev pub verdict_on : List ℕ → List ℕ → Ending
-verdict_on array query = option_map_or ArrayRefused (refusal_of array) (query_verdict (query_on array query))
+-- the refusal of an array file, or otherwise of a query file, or otherwise `Done`
+abbrev pub problem_verdict : List ℕ → List ℕ → Ending
+problem_verdict array query = option_map_or ArrayRefused (refusal_of array) (query_verdict (stated_query array query))
 
--- the text of the query on the array, and nothing where one of them is refused
-abbrev pub text_on : List ℕ → List ℕ → List ℕ
-text_on array query = option_map_or (λ r. []) (refusal_of array) (query_output (stored_array array) (query_on array query))
+-- the lines of the solutions of the query in one file on the array in another, and none where one of them is refused
+abbrev pub problem_output : List ℕ → List ℕ → List ℕ
+problem_output array query = option_map_or (λ r. []) (refusal_of array) (query_output (stored_array array) (stated_query array query))
 
--- the same of two names, where the files are told
-abbrev pub told_verdict_on : Option Files → List ℕ → List ℕ → Option Ending
-told_verdict_on held array query = option_map (λ files. verdict_on (bytes_at files array) (bytes_at files query)) held
+-- the same of the files with two names, where the files are told
+abbrev pub told_problem_verdict : Option Files → List ℕ → List ℕ → Option Ending
+told_problem_verdict held array query = option_map (λ files. problem_verdict (bytes_at files array) (bytes_at files query)) held
 
-abbrev pub told_text_on : Option Files → List ℕ → List ℕ → Option (List ℕ)
-told_text_on held array query = option_map (λ files. text_on (bytes_at files array) (bytes_at files query)) held
+abbrev pub told_problem_output : Option Files → List ℕ → List ℕ → Option (List ℕ)
+told_problem_output held array query = option_map (λ files. problem_output (bytes_at files array) (bytes_at files query)) held
 
 -- ---- an array text
 
--- `Done` where the text is read, and else its refusal
-abbrev pub text_verdict : TextWalked (LayoutParts × List Cell) → Ending
+-- `Done` where an array text is read, and otherwise its refusal
+abbrev pub text_verdict : TextWalked (LayoutNumbers × List Cell) → Ending
 text_verdict (Ok a) = Done
 text_verdict (Err r) = TextRefused r
 
--- the bytes of the array file of a text, and none where it is refused
-abbrev pub packed : TextWalked (LayoutParts × List Cell) → Option (List ℕ)
-packed (Ok (layout, cells)) = Some (array_bytes layout cells)
-packed (Err r) = None
+-- the bytes of the array file of a text; nothing where the text is refused
+abbrev pub packed_bytes : TextWalked (LayoutNumbers × List Cell) → Option (List ℕ)
+packed_bytes (Ok (layout, cells)) = Some (array_bytes layout cells)
+packed_bytes (Err r) = None
 
--- the name and the bytes of the file that is made of a text
-abbrev pub packed_as : List ℕ → List ℕ → Option (List ℕ × List ℕ)
-packed_as name text = option_map (λ bytes. (name, bytes)) (packed (stated_array text))
+-- the name and the bytes of the array file that is made of a text
+abbrev pub packed_file : List ℕ → List ℕ → Option (List ℕ × List ℕ)
+packed_file name text = option_map (λ bytes. (name, bytes)) (packed_bytes (stated_array text))
 
--- the same of two names, where the files are told
-abbrev pub told_verdict_of_text : Option Files → List ℕ → Option Ending
-told_verdict_of_text held text = option_map (λ files. text_verdict (stated_array (bytes_at files text))) held
+-- the same of the file with a name, where the files are told
+abbrev pub told_text_verdict : Option Files → List ℕ → Option Ending
+told_text_verdict held text = option_map (λ files. text_verdict (stated_array (bytes_at files text))) held
 
-abbrev pub told_packed : Option Files → List ℕ → List ℕ → Option (Option (List ℕ × List ℕ))
-told_packed held text array = option_map (λ files. packed_as array (bytes_at files text)) held
+abbrev pub told_packed_file : Option Files → List ℕ → List ℕ → Option (Option (List ℕ × List ℕ))
+told_packed_file held text array = option_map (λ files. packed_file array (bytes_at files text)) held
 
 -- ---- the layout and the cells of an array file
 
--- the array's refusal, or none
+-- the refusal of an array file, or otherwise `Done`
 abbrev pub array_verdict : List ℕ → Ending
 array_verdict array = option_map_or ArrayRefused (refusal_of array) Done
 
--- what is told of the array, and nothing where it is refused
-abbrev pub info_on : List ℕ → List ℕ
-info_on array = option_map_or (λ r. []) (refusal_of array) (file_info array)
+-- what `info` prints of an array file, and nothing where it is refused
+abbrev pub info_output : List ℕ → List ℕ
+info_output array = option_map_or (λ r. []) (refusal_of array) (file_info array)
 
--- the same of a name, where the files are told
-abbrev pub told_verdict_of_array : Option Files → List ℕ → Option Ending
-told_verdict_of_array held array = option_map (λ files. array_verdict (bytes_at files array)) held
+-- the same of the file with a name, where the files are told
+abbrev pub told_array_verdict : Option Files → List ℕ → Option Ending
+told_array_verdict held array = option_map (λ files. array_verdict (bytes_at files array)) held
 
-abbrev pub told_info : Option Files → List ℕ → Option (List ℕ)
-told_info held array = option_map (λ files. info_on (bytes_at files array)) held
+abbrev pub told_info_output : Option Files → List ℕ → Option (List ℕ)
+told_info_output held array = option_map (λ files. info_output (bytes_at files array)) held
 
 -- ---- a command
 
--- what a command comes to where nothing fails
+-- what a command does where nothing fails
 pub record Meaning : Type 0 where
   -- how it ends on these files
   pub verdict : Files → Ending
@@ -106,8 +107,8 @@ pub record Meaning : Type 0 where
 abbrev pub listing : List ℕ → List ℕ → Meaning
 listing array query =
     record {
-      verdict = λ files. verdict_on (bytes_at files array) (bytes_at files query);
-      output = λ files. text_on (bytes_at files array) (bytes_at files query);
+      verdict = λ files. problem_verdict (bytes_at files array) (bytes_at files query);
+      output = λ files. problem_output (bytes_at files array) (bytes_at files query);
       file = λ files. None;
       openings = array ∷ query ∷ [];
     }
@@ -118,16 +119,16 @@ packing text array =
     record {
       verdict = λ files. text_verdict (stated_array (bytes_at files text));
       output = λ files. [];
-      file = λ files. packed_as array (bytes_at files text);
+      file = λ files. packed_file array (bytes_at files text);
       openings = text ∷ array ∷ [];
     }
 
--- to tell what an array file holds
-abbrev pub telling : List ℕ → Meaning
-telling array =
+-- to print what an array file holds
+abbrev pub describing : List ℕ → Meaning
+describing array =
     record {
       verdict = λ files. array_verdict (bytes_at files array);
-      output = λ files. info_on (bytes_at files array);
+      output = λ files. info_output (bytes_at files array);
       file = λ files. None;
       openings = array ∷ [];
     }
@@ -137,7 +138,7 @@ abbrev pub meaning : Command → Meaning
 meaning (solo array query) = listing array query
 meaning (verify array query) = listing array query
 meaning (pack text array) = packing text array
-meaning (info array) = telling array
+meaning (info array) = describing array
 
 -- the verdict, the output and the file of a command, where the files are told
 abbrev pub told_command_verdict : Option Files → Command → Option Ending
@@ -151,7 +152,7 @@ told_command_file held command = option_map (meaning command).file held
 
 -- ---- the words
 
--- how the words end on these files where nothing fails
+-- how a run with these words ends on these files, where nothing fails
 abbrev pub verdict : Files → List Text → Ending
 verdict files words = option_map_or (λ c. (meaning c).verdict files) (command_in words) Usage
 
@@ -170,10 +171,10 @@ openings words = option_map_or (λ c. (meaning c).openings) (command_in words) [
 -- ---- the words as the program has them, where the files are told
 
 abbrev pub told_verdict : Option Files → List (String Global) → Option Ending
-told_verdict held words = option_map (λ files. verdict files (texts_of words)) held
+told_verdict held words = option_map (λ files. verdict files (bytes_of_words words)) held
 
 abbrev pub told_output : Option Files → List (String Global) → Option (List ℕ)
-told_output held words = option_map (λ files. whole_output files (texts_of words)) held
+told_output held words = option_map (λ files. whole_output files (bytes_of_words words)) held
 
 abbrev pub told_file : Option Files → List (String Global) → Option (Option (List ℕ × List ℕ))
-told_file held words = option_map (λ files. made_file files (texts_of words)) held
+told_file held words = option_map (λ files. made_file files (bytes_of_words words)) held

@@ -1,9 +1,9 @@
-//! How a command ends.
+//! How a command ends. Every command answers with this.
+use array_file::FileRefusal;
 use array_text::TextRefusal;
-use grid_cells::LayoutRefusal;
 use query_text::QueryRefusal;
 
-/// How a command ends: its output is whole, or what kept it from being so. Source: own.
+/// How a command ends: its output is whole, or what kept it from being so.
 #[derive(Clone, Copy, Debug, PartialEq, Eq)]
 pub enum Ending {
     /// The output is whole.
@@ -11,14 +11,14 @@ pub enum Ending {
     /// The words name no command.
     Usage,
     /// The array file is refused.
-    ArrayRefused(LayoutRefusal),
+    ArrayRefused(FileRefusal),
     /// The array text is refused.
     TextRefused(TextRefusal),
     /// The query file is refused.
     QueryRefused(QueryRefusal),
-    /// A file was not opened, not created or not read.
+    /// A file could not be opened, created or read.
     ReadFault,
-    /// The output, or the file that is made, was not written.
+    /// The output, or the file that is made, could not be written.
     WriteFault,
     /// Memory ran out.
     NoMemory,

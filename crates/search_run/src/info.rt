@@ -1,30 +1,31 @@
-//! The command `info`: what an array file holds.
+//! The command `info`: prints what an array file holds.
 ghost use Rattle.std.specs.Prelude.{◌≡◌, ◌<◌, ◌≤◌, ◌⊎◌, ◌^◌, ◌≢◌, ◌∷◌, [], OnOk, IsErrOf};
 ghost use Rattle.source_io.specs.Told.{Rose};
 ghost use Rattle.source_io.specs.Files.{file_of};
-ghost use Rattle.source_io.specs.Written.{appended, AppendsFront};
+ghost use Rattle.lists.specs.Appending.{appended, AppendsPrefix};
 ghost use Rattle.search_run.specs.Info.{LoadsInfo};
-ghost use Rattle.search_run.specs.Verdict.{told_verdict_of_array, told_info};
+ghost use Rattle.search_run.specs.Verdict.{told_array_verdict, told_info_output};
 ghost use Rattle.search_run.specs.Ends.{EndsAs, Prints};
 
 use crate::Ending;
 use crate::info_text::print_info;
 use array_file::{HeaderFault, read_header};
+use cells::Record;
 use chunk_store::{CellsFault, array_record};
-use grid_cells::{Layout, Record};
+use layouts::Layout;
 use source_io::{ByteSource, OpenFault, Shelf, Sink};
 use std::alloc::Global;
 
-/// What `info` tells of an array file. Source: own.
+/// What `info` prints of an array file.
 #[derive(Drop)]
 pub struct ArrayInfo {
-    /// Its layout.
     pub layout: Layout,
     /// The record of its present cells.
     pub cells: Record,
 }
 
-/// What a source holds, as an array file. No more than one chunk is in memory.
+/// The layout and the record of the array file in a source. No more than one chunk is in memory at a time.
+/// `ReadFault` only where the source counted a fault. The other errors are `ArrayRefused` and `NoMemory`.
 fn info_from<S: ByteSource>(alloc: Global, source: &mut S) -> Result<ArrayInfo, Ending>
     ensures info { LoadsInfo (S.bytes source.old) result }
     ensures cause { IsErrOf result Ending.ReadFault → Rose (S.faults source.old) (S.faults source.new) }
@@ -42,8 +43,8 @@ fn info_from<S: ByteSource>(alloc: Global, source: &mut S) -> Result<ArrayInfo, 
     }
 }
 
-/// Opens an array file, finds what it holds and hands it back.
-#[tactic(auto, using(source_io::proofs::Writing::front_whole, source_io::proofs::Writing::front_nothing, source_io::proofs::Counting::rose_added))]
+/// Opens an array file, reads its layout and record, and hands the file back.
+#[tactic(auto, using(lists::proofs::Appending::prefix_whole, lists::proofs::Appending::prefix_nothing))]
 fn load_info<F: Shelf>(alloc: Global, name: &str, shelf: &mut F) -> Result<ArrayInfo, Ending>
     requires { F.lent shelf.old < 2 ^ 16 }
     ensures info { LoadsInfo (file_of (F.holds shelf.old) name.now) result }
@@ -51,7 +52,7 @@ fn load_info<F: Shelf>(alloc: Global, name: &str, shelf: &mut F) -> Result<Array
         Rose (F.faults shelf.old) (F.faults shelf.new)
         ⊎ Rose (F.source_faults shelf.old) (F.source_faults shelf.new) }
     ensures all_opened { OnOk result (F.opened shelf.new ≡ appended (F.opened shelf.old) (name.now ∷ [])) }
-    ensures opened { AppendsFront (F.opened shelf.old) (name.now ∷ []) (F.opened shelf.new) }
+    ensures opened { AppendsPrefix (F.opened shelf.old) (name.now ∷ []) (F.opened shelf.new) }
     ensures lent { F.lent shelf.new ≡ F.lent shelf.old }
     ensures holds { F.holds shelf.new ≡ F.holds shelf.old }
     ensures sink_faults { F.sink_faults shelf.new ≡ F.sink_faults shelf.old }
@@ -68,17 +69,16 @@ fn load_info<F: Shelf>(alloc: Global, name: &str, shelf: &mut F) -> Result<Array
 }
 
 /// Prints the layout of the array in a file and the record of its cells, and answers how that ended.
-/// Source: own.
 pub fn info<F: Shelf, O: Sink>(alloc: Global, array: &str, shelf: &mut F, out: &mut O) -> Ending
     requires { F.lent shelf.old < 2 ^ 16 }
-    ensures verdict { EndsAs (told_verdict_of_array (F.holds shelf.old) array.now) result }
-    ensures output { Prints result (told_info (F.holds shelf.old) array.now) (O.written out.old) (O.written out.new) }
+    ensures verdict { EndsAs (told_array_verdict (F.holds shelf.old) array.now) result }
+    ensures output { Prints result (told_info_output (F.holds shelf.old) array.now) (O.written out.old) (O.written out.new) }
     ensures read_fault { result ≡ Ending.ReadFault →
         Rose (F.faults shelf.old) (F.faults shelf.new)
         ⊎ Rose (F.source_faults shelf.old) (F.source_faults shelf.new) }
     ensures write_fault { result ≡ Ending.WriteFault → Rose (O.faults out.old) (O.faults out.new) }
-    ensures words { result ≢ Ending.Usage }
-    ensures opened { AppendsFront (F.opened shelf.old) (array.now ∷ []) (F.opened shelf.new) }
+    ensures not_usage { result ≢ Ending.Usage }
+    ensures opened { AppendsPrefix (F.opened shelf.old) (array.now ∷ []) (F.opened shelf.new) }
     ensures all_opened { result ≡ Ending.Done → F.opened shelf.new ≡ appended (F.opened shelf.old) (array.now ∷ []) }
     ensures lent { F.lent shelf.new ≡ F.lent shelf.old }
     ensures holds { F.holds shelf.new ≡ F.holds shelf.old }

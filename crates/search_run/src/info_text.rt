@@ -1,4 +1,4 @@
-//! A layout and the record of an array's cells, as lines.
+//! The lines that `info` prints: a layout and the record of an array's cells.
 ghost use Rattle.std.specs.Prelude.{◌≡◌, ◌+◌, ◌*◌, ◌<◌, ◌≤◌, ◌++◌, length, OnErr};
 ghost use Rattle.std.specs.Fmt.{signed_decimal};
 ghost use Rattle.source_io.specs.Told.{Rose};
@@ -7,11 +7,11 @@ ghost use Rattle.search_run.specs.Info as info;
 ghost use Rattle.search_run.specs.Info.{item, items, extreme_items, level_lines};
 
 use crate::line::Line;
-use crate::refusal_text::words;
-use grid_cells::{Layout, Record};
+use cells::Record;
+use layouts::Layout;
 use source_io::{Failed, Sink, write_whole};
 
-/// Puts a space and a number at the end of a line.
+/// Appends a space and a number to a line.
 fn push_item(line: &mut Line, n: u64)
     requires { length line.old ≤ 355 }
     ensures text { line.new ≡ line.old ++ item n }
@@ -21,7 +21,8 @@ fn push_item(line: &mut Line, n: u64)
     line.push_number(n);
 }
 
-/// Puts those of three numbers at the end of a line that belong to dimensions of the array, each behind a space.
+/// Appends a space and a number to a line for each dimension of the array. Of the three numbers, the first `rank`
+/// are of its dimensions.
 fn push_items(line: &mut Line, rank: u8, numbers: [u32; 3])
     requires rank { rank ≤ 3 }
     requires room { length line.old ≤ 273 }
@@ -33,12 +34,12 @@ fn push_items(line: &mut Line, rank: u8, numbers: [u32; 3])
     }
 }
 
-/// The lines of the rank, the extents, the chunks and their number.
+/// The lines of the rank, the extents of the array, the extents of a chunk and the number of chunks.
 fn shape_lines(layout: &Layout) -> Line
     ensures { result ≡ info.shape_lines layout.now }
 {
     let rank = layout.rank();
-    let mut lines = words(b"rank");
+    let mut lines = Line::from_text(b"rank");
     push_item(&mut lines, rank as u64);
     lines.push(b"\n");
     lines.push(b"extent");
@@ -53,13 +54,14 @@ fn shape_lines(layout: &Layout) -> Line
     lines
 }
 
-/// The line of a level: the extents of its blocks, and their grid.
+/// The line of a level: the extents of a block, and the number of blocks in each dimension. Levels count from 0,
+/// which is the finest.
 fn level_line(layout: &Layout, level: u8) -> Line
     requires { level < layout.now.levels }
     ensures { result ≡ info.level_line layout.now level }
 {
     let rank = layout.rank();
-    let mut line = words(b"level");
+    let mut line = Line::from_text(b"level");
     push_item(&mut line, level as u64);
     line.push(b" block");
     push_items(&mut line, rank, layout.block(level));
@@ -69,7 +71,7 @@ fn level_line(layout: &Layout, level: u8) -> Line
     line
 }
 
-/// Puts a word and a number at the end of a line.
+/// Appends a word and a number to a line. The word brings its own spaces.
 fn push_named(line: &mut Line, name: &[u8], n: i64)
     requires { length line.old + length name.now ≤ 360 }
     ensures text { line.new ≡ line.old ++ name.now ++ signed_decimal n }
@@ -79,7 +81,7 @@ fn push_named(line: &mut Line, name: &[u8], n: i64)
     line.push_signed(n);
 }
 
-/// Puts the extremes and the sum of a record at the end of a line.
+/// Appends the least, the greatest and the sum of a record to a line.
 fn push_extremes(line: &mut Line, cells: Record)
     requires { length line.old ≤ 240 }
     ensures text { line.new ≡ line.old ++ extreme_items cells }
@@ -90,11 +92,12 @@ fn push_extremes(line: &mut Line, cells: Record)
     push_named(line, b" sum ", cells.sum);
 }
 
-/// The line of the cells.
+/// The line of the cells: how many there are, how many are not empty, and, if there is one, the least, the greatest
+/// and the sum.
 fn cells_line(layout: &Layout, cells: Record) -> Line
     ensures { result ≡ info.cells_line layout.now cells }
 {
-    let mut line = words(b"cells");
+    let mut line = Line::from_text(b"cells");
     push_item(&mut line, layout.cells() as u64);
     line.push(b" present");
     push_item(&mut line, cells.count as u64);
@@ -105,8 +108,8 @@ fn cells_line(layout: &Layout, cells: Record) -> Line
     line
 }
 
-/// Prints the line of each level, the finest first. `Failed` where a write was not done, which the sink counts; a
-/// front of the lines was then written.
+/// Prints the line of each level, the finest first. `Failed` where a write failed, which the sink counts. A prefix of
+/// the lines was then written.
 fn print_levels<K: Sink>(layout: &Layout, sink: &mut K) -> Result<(), Failed>
     ensures written { Writes result (level_lines layout.now) (K.written sink.old) (K.written sink.new) }
     ensures cause { OnErr result (Rose (K.faults sink.old) (K.faults sink.new)) }
@@ -119,8 +122,8 @@ fn print_levels<K: Sink>(layout: &Layout, sink: &mut K) -> Result<(), Failed>
     Ok(())
 }
 
-/// Prints the lines of a layout and the record of its array's cells. `Failed` where a write was not done, which
-/// the sink counts; a front of the lines was then written. Source: own.
+/// Prints the lines of a layout and the record of its array's cells. `Failed` where a write failed, which the sink
+/// counts. A prefix of the lines was then written.
 pub fn print_info<K: Sink>(layout: &Layout, cells: Record, sink: &mut K) -> Result<(), Failed>
     ensures written { Writes result (info.info_text layout.now cells) (K.written sink.old) (K.written sink.new) }
     ensures cause { OnErr result (Rose (K.faults sink.old) (K.faults sink.new)) }

@@ -1,12 +1,12 @@
-//! A line that is put together.
+//! A line that is put together in place. Everything that is printed goes through one.
 ghost use Rattle.std.specs.Prelude.{◌≡◌, ◌+◌, ◌≤◌, ◌^◌, ◌++◌, [], length, decimal};
 ghost use Rattle.std.specs.Fmt.{signed_decimal};
 
 use itoa::Buffer;
 use std::marker::Model;
 
-/// Up to 400 bytes in place; a line of eight variables has 360 at most. Clauses see the list of its
-/// bytes. Source: own.
+/// A line of up to 400 bytes, held in place. A line of eight variables has 360 at most. Clauses see the list of
+/// its bytes.
 #[derive(Drop)]
 pub struct Line {
     bytes: [u8; 400],
@@ -24,7 +24,7 @@ impl Model for Line {
 }
 
 impl Line {
-    /// A line with nothing on it. Source: own.
+    /// An empty line.
     pub fn new() -> Line
         ensures { result ≡ [] }
     {
@@ -34,7 +34,17 @@ impl Line {
         }
     }
 
-    /// Puts a piece at its end. Source: own.
+    /// A line with this text.
+    pub fn from_text(text: &[u8]) -> Line
+        requires { length text.now ≤ 400 }
+        ensures { result ≡ text.now }
+    {
+        let mut line = Line::new();
+        line.push(text);
+        line
+    }
+
+    /// Appends a piece.
     pub fn push(&mut self, piece: &[u8])
         requires { length self.old + length piece.now ≤ 400 }
         ensures { self.new ≡ self.old ++ piece.now }
@@ -44,7 +54,7 @@ impl Line {
         self.len = end;
     }
 
-    /// Puts a number at its end, in decimal. Source: own.
+    /// Appends a number in decimal.
     pub fn push_number(&mut self, n: u64)
         requires { length self.old ≤ 360 }
         ensures number { self.new ≡ self.old ++ decimal n }
@@ -54,7 +64,7 @@ impl Line {
         self.push(digits.format(n).as_bytes());
     }
 
-    /// Puts a number at its end, in decimal, behind a minus sign where it is negative. Source: own.
+    /// Appends a number in decimal, with a minus sign before it if it is negative.
     pub fn push_signed(&mut self, n: i64)
         requires { length self.old ≤ 360 }
         ensures number { self.new ≡ self.old ++ signed_decimal n }
@@ -64,7 +74,7 @@ impl Line {
         self.push(digits.format(n).as_bytes());
     }
 
-    /// Its bytes. Source: own.
+    /// The bytes of the line, in order.
     pub fn as_bytes(&self) -> &[u8]
         ensures { result.now ≡ self.now }
     {

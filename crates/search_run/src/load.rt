@@ -1,8 +1,8 @@
-//! Loads what a command works on from the shelf.
+//! Loading an array and a query from the shelf, for the commands that list solutions.
 ghost use Rattle.std.specs.Prelude.{◌≡◌, ◌<◌, ◌≤◌, ◌⊎◌, ◌^◌, OnOk, IsErrOf, ◌∷◌, []};
 ghost use Rattle.source_io.specs.Told.{Rose};
 ghost use Rattle.source_io.specs.Files.{file_of};
-ghost use Rattle.source_io.specs.Written.{appended, AppendsFront};
+ghost use Rattle.lists.specs.Appending.{appended, AppendsPrefix};
 ghost use Rattle.search_run.specs.Problem.{LoadsQuery, LoadsProblem};
 
 use crate::read_all::read_all;
@@ -14,7 +14,7 @@ use query_text::{MOST_QUERY_BYTES, QueryFault, QueryRefusal, read_query};
 use source_io::{ByteSource, OpenFault, Shelf};
 use std::alloc::Global;
 
-/// The query that a source holds, for arrays of a rank. A file that is too long is refused and not read.
+/// The query in a source, for arrays of a rank. A file that is too long is refused and not read.
 fn query_from<S: ByteSource>(alloc: Global, rank: u8, source: &mut S) -> Result<Query, Ending>
     requires { (1 ≤ rank) × (rank ≤ 3) }
     ensures query { LoadsQuery rank (S.bytes source.old) result }
@@ -36,8 +36,8 @@ fn query_from<S: ByteSource>(alloc: Global, rank: u8, source: &mut S) -> Result<
     }
 }
 
-/// Opens a query file, reads its query for arrays of a rank and hands the file back.
-#[tactic(auto, using(source_io::proofs::Writing::front_whole, source_io::proofs::Writing::front_nothing, source_io::proofs::Counting::rose_added))]
+/// Opens a query file, reads its query for arrays of a rank, and hands the file back.
+#[tactic(auto, using(lists::proofs::Appending::prefix_whole, lists::proofs::Appending::prefix_nothing))]
 fn load_query<F: Shelf>(alloc: Global, rank: u8, name: &str, shelf: &mut F) -> Result<Query, Ending>
     requires rank { (1 ≤ rank) × (rank ≤ 3) }
     requires lent { F.lent shelf.old < 2 ^ 32 }
@@ -48,7 +48,7 @@ fn load_query<F: Shelf>(alloc: Global, rank: u8, name: &str, shelf: &mut F) -> R
     ensures faults { F.faults shelf.old ≤ F.faults shelf.new }
     ensures source_faults { F.source_faults shelf.old ≤ F.source_faults shelf.new }
     ensures all_opened { OnOk result (F.opened shelf.new ≡ appended (F.opened shelf.old) (name.now ∷ [])) }
-    ensures opened { AppendsFront (F.opened shelf.old) (name.now ∷ []) (F.opened shelf.new) }
+    ensures opened { AppendsPrefix (F.opened shelf.old) (name.now ∷ []) (F.opened shelf.new) }
     ensures lent { F.lent shelf.new ≡ F.lent shelf.old }
     ensures holds { F.holds shelf.new ≡ F.holds shelf.old }
     ensures sink_faults { F.sink_faults shelf.new ≡ F.sink_faults shelf.old }
@@ -64,8 +64,8 @@ fn load_query<F: Shelf>(alloc: Global, rank: u8, name: &str, shelf: &mut F) -> R
     query
 }
 
-/// Loads the array that an open file holds, and the query of a named one: first the header of the array,
-/// then the query, then the cells.
+/// Loads the array in an open file, and the query in the file with a name: first the header of the array, then the
+/// query, then the cells.
 fn load_from<F: Shelf>(
     alloc: Global,
     array: &mut F::Source,
@@ -81,7 +81,7 @@ fn load_from<F: Shelf>(
     ensures faults { F.faults shelf.old ≤ F.faults shelf.new }
     ensures source_faults { F.source_faults shelf.old ≤ F.source_faults shelf.new }
     ensures all_opened { OnOk result (F.opened shelf.new ≡ appended (F.opened shelf.old) (query.now ∷ [])) }
-    ensures opened { AppendsFront (F.opened shelf.old) (query.now ∷ []) (F.opened shelf.new) }
+    ensures opened { AppendsPrefix (F.opened shelf.old) (query.now ∷ []) (F.opened shelf.new) }
     ensures lent { F.lent shelf.new ≡ F.lent shelf.old }
     ensures holds { F.holds shelf.new ≡ F.holds shelf.old }
     ensures sink_faults { F.sink_faults shelf.new ≡ F.sink_faults shelf.old }
@@ -107,7 +107,9 @@ fn load_from<F: Shelf>(
     }
 }
 
-/// Opens an array file and a query file, loads what they hold and hands both back. Source: own.
+/// Opens an array file and a query file, loads the array and the query, and hands both files back.
+/// `ReadFault` only where a count of the shelf rose. The other errors are `ArrayRefused`, `QueryRefused` and
+/// `NoMemory`.
 pub fn load<F: Shelf>(
     alloc: Global,
     array: &str,
@@ -122,7 +124,7 @@ pub fn load<F: Shelf>(
         ⊎ Rose (F.source_faults shelf.old) (F.source_faults shelf.new) }
     ensures all_opened { OnOk result
         (F.opened shelf.new ≡ appended (F.opened shelf.old) (array.now ∷ query.now ∷ [])) }
-    ensures opened { AppendsFront (F.opened shelf.old) (array.now ∷ query.now ∷ []) (F.opened shelf.new) }
+    ensures opened { AppendsPrefix (F.opened shelf.old) (array.now ∷ query.now ∷ []) (F.opened shelf.new) }
     ensures lent { F.lent shelf.new ≡ F.lent shelf.old }
     ensures holds { F.holds shelf.new ≡ F.holds shelf.old }
     ensures sink_faults { F.sink_faults shelf.new ≡ F.sink_faults shelf.old }

@@ -1,23 +1,24 @@
-//! The command `pack`: the array file of an array text.
+//! The command `pack`: makes the array file of an array text.
 ghost use Rattle.std.specs.Prelude.{◌≡◌, ◌≢◌, ◌<◌, ◌≤◌, ◌⊎◌, ◌^◌, None, OnOk, IsErrOf, ◌∷◌, [], length};
 ghost use Rattle.source_io.specs.Told.{Rose};
-ghost use Rattle.source_io.specs.Files.{file_of, with_file, HasFront};
-ghost use Rattle.source_io.specs.Written.{appended, AppendsFront};
-ghost use Rattle.grid_cells.specs.Numbers.{product};
+ghost use Rattle.source_io.specs.Files.{file_of, with_file, HasPrefix};
+ghost use Rattle.lists.specs.Appending.{appended, AppendsPrefix};
+ghost use Rattle.lists.specs.Numbers.{product};
 ghost use Rattle.array_file.specs.Written.{array_bytes};
 ghost use Rattle.search_run.specs.Texts.{LoadsText};
-ghost use Rattle.search_run.specs.Verdict.{told_verdict_of_text, told_packed};
+ghost use Rattle.search_run.specs.Verdict.{told_text_verdict, told_packed_file};
 ghost use Rattle.search_run.specs.Ends.{EndsAs, MakesFile, LeavesFile};
 
 use crate::Ending;
 use crate::read_all::read_all;
 use array_file::write_array;
 use array_text::{ArrayText, MOST_TEXT_BYTES, TextFault, TextRefusal, read_array_text};
-use grid_cells::{Cell, Layout};
+use cells::Cell;
+use layouts::Layout;
 use source_io::{ByteSource, OpenFault, Shelf};
 use std::alloc::Global;
 
-/// The array that a source's text states. A text that is too long is refused and not read.
+/// The array that the text in a source states. A text that is too long is refused and not read.
 fn text_from<S: ByteSource>(alloc: Global, source: &mut S) -> Result<ArrayText, Ending>
     ensures text { LoadsText (S.bytes source.old) result }
     ensures cause { IsErrOf result Ending.ReadFault → Rose (S.faults source.old) (S.faults source.new) }
@@ -38,8 +39,8 @@ fn text_from<S: ByteSource>(alloc: Global, source: &mut S) -> Result<ArrayText, 
     }
 }
 
-/// Opens an array text, reads the array that it states and hands the file back.
-#[tactic(auto, using(source_io::proofs::Writing::front_whole, source_io::proofs::Writing::front_nothing, source_io::proofs::Counting::rose_added))]
+/// Opens an array text, reads the array that it states, and hands the file back.
+#[tactic(auto, using(lists::proofs::Appending::prefix_whole, lists::proofs::Appending::prefix_nothing))]
 fn load_text<F: Shelf>(alloc: Global, name: &str, shelf: &mut F) -> Result<ArrayText, Ending>
     requires { F.lent shelf.old < 2 ^ 16 }
     ensures text { LoadsText (file_of (F.holds shelf.old) name.now) result }
@@ -48,7 +49,7 @@ fn load_text<F: Shelf>(alloc: Global, name: &str, shelf: &mut F) -> Result<Array
         ⊎ Rose (F.source_faults shelf.old) (F.source_faults shelf.new) }
     ensures faults { F.faults shelf.old ≤ F.faults shelf.new }
     ensures all_opened { OnOk result (F.opened shelf.new ≡ appended (F.opened shelf.old) (name.now ∷ [])) }
-    ensures opened { AppendsFront (F.opened shelf.old) (name.now ∷ []) (F.opened shelf.new) }
+    ensures opened { AppendsPrefix (F.opened shelf.old) (name.now ∷ []) (F.opened shelf.new) }
     ensures source_faults { F.source_faults shelf.old ≤ F.source_faults shelf.new }
     ensures sink_faults { F.sink_faults shelf.new ≡ F.sink_faults shelf.old }
     ensures lent { F.lent shelf.new ≡ F.lent shelf.old }
@@ -65,20 +66,20 @@ fn load_text<F: Shelf>(alloc: Global, name: &str, shelf: &mut F) -> Result<Array
     read
 }
 
-/// Makes the array file of a layout and its cells, in place of a file that has the name.
-#[tactic(auto, using(source_io::proofs::Writing::front_whole, source_io::proofs::Writing::front_nothing, source_io::proofs::Counting::rose_added))]
+/// Makes the array file of a layout and its cells. It replaces a file that has the name.
+#[tactic(auto, using(lists::proofs::Appending::prefix_whole, lists::proofs::Appending::prefix_nothing))]
 fn make_array<F: Shelf>(name: &str, layout: &Layout, cells: &[Cell], shelf: &mut F) -> Ending
     requires count { length cells.now ≡ product layout.now.extents }
     requires making { F.making shelf.old ≡ None }
     ensures kinds { result ≢ Ending.Done → (result ≡ Ending.ReadFault) ⊎ (result ≡ Ending.WriteFault) ⊎ (result ≡ Ending.NoMemory) }
     ensures whole { result ≡ Ending.Done → F.holds shelf.new ≡ with_file (F.holds shelf.old) name.now (array_bytes layout.now cells.now) }
-    ensures front { result ≡ Ending.WriteFault → HasFront (F.holds shelf.old) name.now (array_bytes layout.now cells.now) (F.holds shelf.new) }
+    ensures prefix { result ≡ Ending.WriteFault → HasPrefix (F.holds shelf.old) name.now (array_bytes layout.now cells.now) (F.holds shelf.new) }
     ensures nothing { result ≢ Ending.Done → result ≢ Ending.WriteFault → F.holds shelf.new ≡ F.holds shelf.old }
     ensures read_fault { result ≡ Ending.ReadFault → Rose (F.faults shelf.old) (F.faults shelf.new) }
     ensures write_fault { result ≡ Ending.WriteFault → Rose (F.sink_faults shelf.old) (F.sink_faults shelf.new) }
     ensures faults { F.faults shelf.old ≤ F.faults shelf.new }
     ensures all_opened { result ≡ Ending.Done → F.opened shelf.new ≡ appended (F.opened shelf.old) (name.now ∷ []) }
-    ensures opened { AppendsFront (F.opened shelf.old) (name.now ∷ []) (F.opened shelf.new) }
+    ensures opened { AppendsPrefix (F.opened shelf.old) (name.now ∷ []) (F.opened shelf.new) }
     ensures source_faults { F.source_faults shelf.new ≡ F.source_faults shelf.old }
     ensures lent { F.lent shelf.new ≡ F.lent shelf.old }
     ensures making { F.making shelf.new ≡ None }
@@ -96,22 +97,22 @@ fn make_array<F: Shelf>(name: &str, layout: &Layout, cells: &[Cell], shelf: &mut
     }
 }
 
-/// Makes the array file `array` of the array text `text`, and answers how that ended. The text is read whole
-/// and all memory taken before the file is created. Source: own.
+/// Makes the array file `array` of the array text `text`, and answers how that ended. The whole text is read, and all
+/// memory is taken, before the file is created.
 pub fn pack<F: Shelf>(alloc: Global, text: &str, array: &str, shelf: &mut F) -> Ending
     requires lent { F.lent shelf.old < 2 ^ 16 }
     requires making { F.making shelf.old ≡ None }
-    ensures verdict { EndsAs (told_verdict_of_text (F.holds shelf.old) text.now) result }
-    ensures words { result ≢ Ending.Usage }
+    ensures verdict { EndsAs (told_text_verdict (F.holds shelf.old) text.now) result }
+    ensures not_usage { result ≢ Ending.Usage }
     ensures made { result ≡ Ending.Done →
-        MakesFile (told_packed (F.holds shelf.old) text.now array.now) (F.holds shelf.old) (F.holds shelf.new) }
-    ensures left { LeavesFile (told_packed (F.holds shelf.old) text.now array.now) (F.holds shelf.old) (F.holds shelf.new) }
+        MakesFile (told_packed_file (F.holds shelf.old) text.now array.now) (F.holds shelf.old) (F.holds shelf.new) }
+    ensures left { LeavesFile (told_packed_file (F.holds shelf.old) text.now array.now) (F.holds shelf.old) (F.holds shelf.new) }
     ensures unmade { result ≢ Ending.Done → result ≢ Ending.WriteFault → F.holds shelf.new ≡ F.holds shelf.old }
     ensures read_fault { result ≡ Ending.ReadFault →
         Rose (F.faults shelf.old) (F.faults shelf.new)
         ⊎ Rose (F.source_faults shelf.old) (F.source_faults shelf.new) }
     ensures write_fault { result ≡ Ending.WriteFault → Rose (F.sink_faults shelf.old) (F.sink_faults shelf.new) }
-    ensures opened { AppendsFront (F.opened shelf.old) (text.now ∷ array.now ∷ []) (F.opened shelf.new) }
+    ensures opened { AppendsPrefix (F.opened shelf.old) (text.now ∷ array.now ∷ []) (F.opened shelf.new) }
     ensures all_opened { result ≡ Ending.Done →
         F.opened shelf.new ≡ appended (F.opened shelf.old) (text.now ∷ array.now ∷ []) }
     ensures lent { F.lent shelf.new ≡ F.lent shelf.old }

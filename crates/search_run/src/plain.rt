@@ -1,19 +1,18 @@
-//! The commands `solo` and `verify`: all solutions by plain enumeration.
+//! The commands `solo` and `verify`: print all solutions, found by plain enumeration.
 ghost use Rattle.std.specs.Prelude.{◌≡◌, ◌<◌, ◌⊎◌, ◌^◌, ◌≢◌, ◌∷◌, []};
 ghost use Rattle.source_io.specs.Told.{Rose};
-ghost use Rattle.source_io.specs.Written.{appended, AppendsFront};
-ghost use Rattle.search_run.specs.Verdict.{told_verdict_on, told_text_on};
+ghost use Rattle.lists.specs.Appending.{appended, AppendsPrefix};
+ghost use Rattle.search_run.specs.Verdict.{told_problem_verdict, told_problem_output};
 ghost use Rattle.search_run.specs.Ends.{EndsAs, Prints};
 
 use crate::Ending;
 use crate::load::load;
-use crate::print::print;
+use crate::print::print_solutions;
 use plain_enum::list_plain;
 use source_io::{Shelf, Sink};
 use std::alloc::Global;
 
-/// Prints the solutions of the query in one file on the array in another, in order, and answers how
-/// that ended. Source: own.
+/// Prints the solutions of the query in one file on the array in another, in order, and answers how that ended.
 pub fn list_solutions<F: Shelf, O: Sink>(
     alloc: Global,
     array: &str,
@@ -22,15 +21,15 @@ pub fn list_solutions<F: Shelf, O: Sink>(
     out: &mut O,
 ) -> Ending
     requires { F.lent shelf.old < 2 ^ 16 }
-    ensures verdict { EndsAs (told_verdict_on (F.holds shelf.old) array.now query.now) result }
-    ensures output { Prints result (told_text_on (F.holds shelf.old) array.now query.now)
+    ensures verdict { EndsAs (told_problem_verdict (F.holds shelf.old) array.now query.now) result }
+    ensures output { Prints result (told_problem_output (F.holds shelf.old) array.now query.now)
         (O.written out.old) (O.written out.new) }
     ensures read_fault { result ≡ Ending.ReadFault →
         Rose (F.faults shelf.old) (F.faults shelf.new)
         ⊎ Rose (F.source_faults shelf.old) (F.source_faults shelf.new) }
     ensures write_fault { result ≡ Ending.WriteFault → Rose (O.faults out.old) (O.faults out.new) }
-    ensures words { result ≢ Ending.Usage }
-    ensures opened { AppendsFront (F.opened shelf.old) (array.now ∷ query.now ∷ []) (F.opened shelf.new) }
+    ensures not_usage { result ≢ Ending.Usage }
+    ensures opened { AppendsPrefix (F.opened shelf.old) (array.now ∷ query.now ∷ []) (F.opened shelf.new) }
     ensures all_opened { result ≡ Ending.Done →
         F.opened shelf.new ≡ appended (F.opened shelf.old) (array.now ∷ query.now ∷ []) }
     ensures lent { F.lent shelf.new ≡ F.lent shelf.old }
@@ -51,7 +50,7 @@ pub fn list_solutions<F: Shelf, O: Sink>(
         Ok(points) => points,
         Err(_) => return Ending::NoMemory,
     };
-    match print(&problem.query, points.as_slice(), out) {
+    match print_solutions(&problem.query, points.as_slice(), out) {
         Ok(()) => Ending::Done,
         Err(_) => Ending::WriteFault,
     }

@@ -1,4 +1,4 @@
-//! Solutions as lines.
+//! Solutions as lines. `solo` and `verify` print them.
 ghost use Rattle.std.specs.Prelude.{◌≡◌, ◌+◌, ◌*◌, ◌≤◌, ◌++◌, ◌==◌, if◌then◌else◌, All, length, OnErr, codes};
 ghost use Rattle.source_io.specs.Told.{Rose};
 ghost use Rattle.source_io.specs.Written.{Writes};
@@ -11,7 +11,7 @@ use itoa::Buffer;
 use query_model::{Query, Variable};
 use source_io::{Failed, Sink, write_whole};
 
-/// Puts a space behind the first i fields of a line, where there are any.
+/// Appends a space to a line that has i fields, if it has any.
 fn push_space(line: &mut Line, i: usize)
     requires { length line.old ≤ 360 }
     ensures text { line.new ≡ (if i == 0 then line.old else line.old ++ codes " ") }
@@ -22,7 +22,7 @@ fn push_space(line: &mut Line, i: usize)
     }
 }
 
-/// Puts a variable's name, an equals sign and its value at the end of a line.
+/// Appends a variable's name, an equals sign and its value to a line.
 fn push_field(line: &mut Line, variable: &Variable, value: i32)
     requires room { length line.old ≤ 356 }
     requires rules { IsVariable variable.now }
@@ -35,8 +35,8 @@ fn push_field(line: &mut Line, variable: &Variable, value: i32)
     line.push(digits.format(value).as_bytes());
 }
 
-/// The line of a solution.
-fn line(query: &Query, point: &Point) -> Line
+/// The line of a solution, which has one value for each variable of the query.
+fn solution_line(query: &Query, point: &Point) -> Line
     requires { length point.now ≡ length query.now.variables }
     ensures { result ≡ line_of query.now point.now }
 {
@@ -50,9 +50,9 @@ fn line(query: &Query, point: &Point) -> Line
     line
 }
 
-/// Prints the line of each of these solutions, in order, by one `write_whole` each. `Failed` where a
-/// write was not done, which the sink counts; a front of the lines was then written. Source: own.
-pub fn print<K: Sink>(query: &Query, points: &[Point], sink: &mut K) -> Result<(), Failed>
+/// Prints the line of each of these solutions, in order, with one `write_whole` each. `Failed` where a write failed,
+/// which the sink counts. A prefix of the lines was then written.
+pub fn print_solutions<K: Sink>(query: &Query, points: &[Point], sink: &mut K) -> Result<(), Failed>
     requires { All (λ p. length p ≡ length query.now.variables) points.now }
     ensures written { Writes result (lines_of query.now points.now)
         (K.written sink.old) (K.written sink.new) }
@@ -60,7 +60,7 @@ pub fn print<K: Sink>(query: &Query, points: &[Point], sink: &mut K) -> Result<(
     ensures faults { K.faults sink.old ≤ K.faults sink.new }
 {
     for point in points {
-        let line = line(query, point);
+        let line = solution_line(query, point);
         write_whole(sink, line.as_bytes())?;
     }
     Ok(())

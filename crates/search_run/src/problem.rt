@@ -1,14 +1,14 @@
-//! What is searched, and for what.
+//! A query with its array: what is searched for, and where.
 ghost use Rattle.std.specs.Prelude.{◌≡◌, ◌≤◌, ◌^◌, length};
-ghost use Rattle.grid_cells.specs.Numbers.{product};
+ghost use Rattle.lists.specs.Numbers.{product};
 
-use grid_cells::{Cell, Shape};
+use cells::{Cell, Shape};
 use query_model::Query;
 
-/// A query and the array that it is asked of. Source: own.
+/// A query and the array on which it is solved.
 #[derive(Drop)]
 pub struct Problem {
-    /// What is searched for.
+    /// The conditions that a solution meets.
     pub query: Query,
     /// The extents of the array, in cells.
     pub shape: Shape,

@@ -1,9 +1,9 @@
-//! The top call.
+//! The top call, which the program makes.
 ghost use Rattle.std.specs.Prelude.{◌≡◌, ◌≢◌, ◌<◌, ◌≤◌, ◌^◌, ◌⊎◌, None, false};
 ghost use Rattle.source_io.specs.Told.{Rose};
-ghost use Rattle.source_io.specs.Written.{appended, AppendsFront};
-ghost use Rattle.command_words.specs.Words.{command_in, names_command, texts_of};
-ghost use Rattle.command_words.specs.Commands.{named};
+ghost use Rattle.lists.specs.Appending.{appended, AppendsPrefix};
+ghost use Rattle.command_words.specs.Words.{command_in, names_command, bytes_of_words};
+ghost use Rattle.command_words.specs.Commands.{command_of};
 ghost use Rattle.search_run.specs.Verdict.{
   told_command_verdict,
   told_command_output,
@@ -20,7 +20,7 @@ ghost use Rattle.search_run.specs.Ends.{
   LeavesFile,
   Prints,
   PrintsWhole,
-  PrintsFront,
+  PrintsPrefix,
   IsStatus,
   IsStatusOrNoMemory,
   SaysEnding,
@@ -35,7 +35,7 @@ use command_words::{Command, WordsFault, read_words};
 use source_io::{Shelf, Sink};
 use std::alloc::Global;
 
-/// Runs a command, and answers how it ended. It says nothing on the error stream.
+/// Runs a command, and answers how it ended. It writes nothing to the error stream.
 fn run_command<F: Shelf, O: Sink>(
     alloc: Global,
     command: Command<'_>,
@@ -44,12 +44,12 @@ fn run_command<F: Shelf, O: Sink>(
 ) -> Ending
     requires lent { F.lent shelf.old < 2 ^ 16 }
     requires making { F.making shelf.old ≡ None }
-    ensures verdict { EndsAs (told_command_verdict (F.holds shelf.old) (named command.entry)) result }
-    ensures output { Prints result (told_command_output (F.holds shelf.old) (named command.entry))
+    ensures verdict { EndsAs (told_command_verdict (F.holds shelf.old) (command_of command.entry)) result }
+    ensures output { Prints result (told_command_output (F.holds shelf.old) (command_of command.entry))
         (O.written out.old) (O.written out.new) }
     ensures made { result ≡ Ending.Done →
-        MakesFile (told_command_file (F.holds shelf.old) (named command.entry)) (F.holds shelf.old) (F.holds shelf.new) }
-    ensures left { LeavesFile (told_command_file (F.holds shelf.old) (named command.entry))
+        MakesFile (told_command_file (F.holds shelf.old) (command_of command.entry)) (F.holds shelf.old) (F.holds shelf.new) }
+    ensures left { LeavesFile (told_command_file (F.holds shelf.old) (command_of command.entry))
         (F.holds shelf.old) (F.holds shelf.new) }
     ensures unmade { result ≢ Ending.Done → result ≢ Ending.WriteFault → F.holds shelf.new ≡ F.holds shelf.old }
     ensures read_fault { result ≡ Ending.ReadFault →
@@ -58,10 +58,10 @@ fn run_command<F: Shelf, O: Sink>(
     ensures write_fault { result ≡ Ending.WriteFault →
         Rose (O.faults out.old) (O.faults out.new)
         ⊎ Rose (F.sink_faults shelf.old) (F.sink_faults shelf.new) }
-    ensures words { result ≢ Ending.Usage }
-    ensures opened { AppendsFront (F.opened shelf.old) ((meaning (named command.entry)).openings) (F.opened shelf.new) }
+    ensures not_usage { result ≢ Ending.Usage }
+    ensures opened { AppendsPrefix (F.opened shelf.old) ((meaning (command_of command.entry)).openings) (F.opened shelf.new) }
     ensures all_opened { result ≡ Ending.Done →
-        F.opened shelf.new ≡ appended (F.opened shelf.old) ((meaning (named command.entry)).openings) }
+        F.opened shelf.new ≡ appended (F.opened shelf.old) ((meaning (command_of command.entry)).openings) }
     ensures lent { F.lent shelf.new ≡ F.lent shelf.old }
     ensures making { F.making shelf.new ≡ F.making shelf.old }
 {
@@ -73,8 +73,8 @@ fn run_command<F: Shelf, O: Sink>(
     }
 }
 
-/// Runs the command that the words name, and answers how it ended. It says nothing on the error stream.
-#[tactic(auto, using(source_io::proofs::Writing::front_nothing))]
+/// Runs the command that the words name, and answers how it ended. It writes nothing to the error stream.
+#[tactic(auto, using(lists::proofs::Appending::prefix_nothing))]
 fn run<F: Shelf, O: Sink>(alloc: Global, words: &[String], shelf: &mut F, out: &mut O) -> Ending
     requires lent { F.lent shelf.old < 2 ^ 16 }
     requires making { F.making shelf.old ≡ None }
@@ -91,12 +91,12 @@ fn run<F: Shelf, O: Sink>(alloc: Global, words: &[String], shelf: &mut F, out: &
     ensures write_fault { result ≡ Ending.WriteFault →
         Rose (O.faults out.old) (O.faults out.new)
         ⊎ Rose (F.sink_faults shelf.old) (F.sink_faults shelf.new) }
-    ensures usage { result ≡ Ending.Usage → command_in (texts_of words.now) ≡ None }
-    ensures unread { command_in (texts_of words.now) ≡ None → (result ≡ Ending.Usage) ⊎ (result ≡ Ending.NoMemory) }
-    ensures unnamed { names_command (texts_of words.now) ≡ false → result ≡ Ending.Usage }
-    ensures opened { AppendsFront (F.opened shelf.old) (openings (texts_of words.now)) (F.opened shelf.new) }
+    ensures usage { result ≡ Ending.Usage → command_in (bytes_of_words words.now) ≡ None }
+    ensures unread { command_in (bytes_of_words words.now) ≡ None → (result ≡ Ending.Usage) ⊎ (result ≡ Ending.NoMemory) }
+    ensures unnamed { names_command (bytes_of_words words.now) ≡ false → result ≡ Ending.Usage }
+    ensures opened { AppendsPrefix (F.opened shelf.old) (openings (bytes_of_words words.now)) (F.opened shelf.new) }
     ensures all_opened { result ≡ Ending.Done →
-        F.opened shelf.new ≡ appended (F.opened shelf.old) (openings (texts_of words.now)) }
+        F.opened shelf.new ≡ appended (F.opened shelf.old) (openings (bytes_of_words words.now)) }
     ensures lent { F.lent shelf.new ≡ F.lent shelf.old }
     ensures making { F.making shelf.new ≡ F.making shelf.old }
 {
@@ -107,19 +107,18 @@ fn run<F: Shelf, O: Sink>(alloc: Global, words: &[String], shelf: &mut F, out: &
     }
 }
 
-/// Runs the command that the words name on a shelf of files. It writes the command's output to `out`, makes
-/// the command's file, says on `err` in one line what kept it from doing so, and answers the exit status:
+/// Runs the command that the words name on a shelf of files. It writes the command's output to `out` and makes the
+/// command's file. If it cannot, it writes one line to `err` that says why. It answers the exit status:
 ///
 /// - 0: the output is whole, and so is the file.
-/// - 2: the words name no command; 3: the array file or the array text is refused; 4: the query file is
-///   refused. Each of these comes only where the words or the bytes show it, and there always, unless a
-///   fault or want of memory came first. Nothing was then written to `out`, and no file made.
-/// - 5: a file was not opened, not created or not read, which a count of the shelf shows; 6: `out` or the
-///   file was not written, which its count shows; 7: memory ran out. A front of the output was then written,
-///   and at 6 a front of the file.
+/// - 2: the words name no command. 3: the array file or the array text is refused. 4: the query file is refused.
+///   Each of these comes only if the words or the bytes show it, and then always, unless a fault or out of memory
+///   came first. Nothing was written to `out`, and no file was made.
+/// - 5: a file could not be opened, created or read, which a count of the shelf shows. 6: `out` or the file could not
+///   be written, which its count shows. 7: out of memory. A prefix of the output was written, and at 6 a prefix of
+///   the file.
 ///
-/// The clauses go by what the words and the told files determine, and it returns on all of them.
-/// Source: own.
+/// The clauses speak of what the words and the told files determine. It returns on all words and files.
 pub fn run_tool<F: Shelf, O: Sink, E: Sink>(
     alloc: Global,
     words: &[String],
@@ -130,25 +129,25 @@ pub fn run_tool<F: Shelf, O: Sink, E: Sink>(
     requires lent { F.lent shelf.old < 2 ^ 16 }
     requires making { F.making shelf.old ≡ None }
 
-    // The status is that of the verdict, unless a fault or want of memory came first.
+    // The status is the verdict's, unless a fault or out of memory came first.
     ensures status { IsStatus (told_verdict (F.holds shelf.old) words.now) result }
-    ensures usage { result ≡ 2 → command_in (texts_of words.now) ≡ None }
-    ensures unread { command_in (texts_of words.now) ≡ None → (result ≡ 2) ⊎ (result ≡ 7) }
-    ensures unnamed { names_command (texts_of words.now) ≡ false → result ≡ 2 }
+    ensures usage { result ≡ 2 → command_in (bytes_of_words words.now) ≡ None }
+    ensures unread { command_in (bytes_of_words words.now) ≡ None → (result ≡ 2) ⊎ (result ≡ 7) }
+    ensures unnamed { names_command (bytes_of_words words.now) ≡ false → result ≡ 2 }
     ensures known { result ≤ 7 }
 
-    // The output is whole at 0, nothing at 2, 3 and 4, and a front of the whole at 5, 6 and 7.
+    // At 0 the output is whole, at 2, 3 and 4 there is none, and at 5, 6 and 7 there is a prefix of it.
     ensures whole { result ≡ 0 →
         PrintsWhole (told_output (F.holds shelf.old) words.now) (O.written out.old) (O.written out.new) }
     ensures silent { 2 ≤ result → result ≤ 4 → O.written out.new ≡ O.written out.old }
-    ensures front { PrintsFront (told_output (F.holds shelf.old) words.now) (O.written out.old) (O.written out.new) }
+    ensures prefix { PrintsPrefix (told_output (F.holds shelf.old) words.now) (O.written out.old) (O.written out.new) }
 
-    // The line on the error stream goes with the status; a fault of that stream changes no status.
+    // The line on the error stream is that of the status. A fault of that stream changes no status.
     ensures said { SaysEnding (told_verdict (F.holds shelf.old) words.now) result
         (Rose (E.faults err.old) (E.faults err.new)) (E.written err.old) (E.written err.new) }
     ensures quiet { result ≡ 0 → E.written err.new ≡ E.written err.old }
 
-    // A fault has its cause, and with no cause the status is that of the verdict, or memory ran out.
+    // A fault has its cause. With no cause the status is the verdict's, or memory ran out.
     ensures read_fault { result ≡ 5 →
         Rose (F.faults shelf.old) (F.faults shelf.new)
         ⊎ Rose (F.source_faults shelf.old) (F.source_faults shelf.new) }
@@ -161,17 +160,16 @@ pub fn run_tool<F: Shelf, O: Sink, E: Sink>(
         → ¬ Rose (O.faults out.old) (O.faults out.new)
         → IsStatusOrNoMemory (told_verdict (F.holds shelf.old) words.now) result }
 
-    // At 0 the files are as they were, with the command's file among them; at 6 a front of it may be there;
-    // and else nothing has changed.
+    // At 0 the command's file was added to the files. At 6 a prefix of it may have been. Otherwise no file changed.
     ensures made { result ≡ 0 →
         MakesFile (told_file (F.holds shelf.old) words.now) (F.holds shelf.old) (F.holds shelf.new) }
     ensures left { LeavesFile (told_file (F.holds shelf.old) words.now) (F.holds shelf.old) (F.holds shelf.new) }
     ensures unmade { result ≢ 0 → result ≢ 6 → F.holds shelf.new ≡ F.holds shelf.old }
 
-    // It opens and creates no other names than the command's, and hands all back.
-    ensures opened { AppendsFront (F.opened shelf.old) (openings (texts_of words.now)) (F.opened shelf.new) }
+    // It opens and creates no other names than the command's, and hands all files back.
+    ensures opened { AppendsPrefix (F.opened shelf.old) (openings (bytes_of_words words.now)) (F.opened shelf.new) }
     ensures all_opened { result ≡ 0 →
-        F.opened shelf.new ≡ appended (F.opened shelf.old) (openings (texts_of words.now)) }
+        F.opened shelf.new ≡ appended (F.opened shelf.old) (openings (bytes_of_words words.now)) }
     ensures lent { F.lent shelf.new ≡ F.lent shelf.old }
     ensures making { F.making shelf.new ≡ F.making shelf.old }
 {

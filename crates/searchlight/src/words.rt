@@ -7,7 +7,7 @@ use std::io::ErrorKind;
 use std::rt::Env;
 
 /// The program's name and the words after it, in order. `Usage` where one of them is no UTF-8, so that
-/// no command reads it; `NoMemory` where there is no memory for them. Source: own.
+/// no command reads it; `NoMemory` where there is no memory for them.
 pub fn all_words<R: Env + AllocGlobal>(rt: &R) -> Result<Vec<String>, Ending> {
     match env::args(rt) {
         Ok(words) => words.collect(rt.alloc()).map_err(|_| Ending::NoMemory),
@@ -16,7 +16,7 @@ pub fn all_words<R: Env + AllocGlobal>(rt: &R) -> Result<Vec<String>, Ending> {
     }
 }
 
-/// The words after the first, which is the program's name; none where there is no first. Source: own.
+/// The words after the first, which is the program's name; none where there is no first.
 pub fn after_name(words: &[String]) -> &[String]
     ensures { result.now ≡ drop 1 words.now }
 {

@@ -1,4 +1,4 @@
--- A file found by its name, from the front of a list.
+-- A file found by its name, in a list that is searched from its beginning. Used by the shelf in memory.
 use Rattle.std.proofs.Common.{◌≡◌, ℕ, ◌+◌, ◌<◌, List, ◌∷◌, true, false, cond, Some, String, string_bytes, Vec, drop, length, get_or, sym, ap, ◌∙◌, suc, add-one}
 use Rattle.std.proofs.Math.Seq.{drop-cons}
 use Rattle.std.specs.FinMap.{get, get-insert}

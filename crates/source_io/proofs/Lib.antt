@@ -1,4 +1,2 @@
-pub mod Counting
 pub mod Finding
 pub mod Reading
-pub mod Writing

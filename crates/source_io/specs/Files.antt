@@ -1,10 +1,11 @@
 -- Files by their names, where they are told.
+-- Used by shelves, and by what is said of commands that read and make files.
 use Rattle.std.specs.Prelude.{◌≡◌, ℕ, List, [], Option, Some, None, IsSome, IfSome, unwrap_or, option_map, String, string_bytes, Vec}
 use Rattle.std.specs.Prelude.{map as mapped}
 use Rattle.std.specs.FinMap as map
 use Rattle.std.specs.Ordering.{nat_cmp}
 use Rattle.std.specs.Cmp.Lexicographic.{slice_cmp}
-use Rattle.source_io.specs.Written.{IsFrontOf}
+use Rattle.lists.specs.Appending.{IsPrefixOf}
 
 -- finitely many names, and the bytes of each
 abbrev pub Files : Type 0
@@ -35,6 +36,6 @@ abbrev pub with_written : Option Files → List ℕ → Option (List ℕ) → Op
 with_written told name (Some bytes) = with_file told name bytes
 with_written told name None = None
 
--- a front of these bytes came under the name, where the files are told; the other files stayed
-abbrev pub HasFront : Option Files → List ℕ → List ℕ → Option Files → Type 0
-HasFront old name bytes new = (front : List ℕ) × IsFrontOf front bytes × (new ≡ with_file old name front)
+-- a prefix of these bytes came under the name, where the files are told; the other files stayed
+abbrev pub HasPrefix : Option Files → List ℕ → List ℕ → Option Files → Type 0
+HasPrefix old name bytes new = (prefix : List ℕ) × IsPrefixOf prefix bytes × (new ≡ with_file old name prefix)

@@ -1,4 +1,4 @@
--- What a source in memory recorded.
+-- What a source in memory recorded. Used by the shelf in memory.
 use Rattle.std.specs.Prelude.{List, string_bytes}
 use Rattle.source_io.specs.declared.mem_source.MemSource.{MemSource}
 use Rattle.source_io.specs.Asked.{Read, reads_of}

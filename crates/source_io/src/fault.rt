@@ -1,14 +1,14 @@
-//! Why the outside did not do what was asked of it.
+//! Why the outside did not do what it was to do. All traits answer with these.
 
-/// A read or a write that was not done. Source: own.
+/// A read or a write that was not done.
 #[derive(Clone, Copy, Debug, PartialEq, Eq)]
 pub struct Failed;
 
-/// Memory ran out. Source: own.
+/// Memory ran out.
 #[derive(Clone, Copy, Debug, PartialEq, Eq)]
 pub struct NoMemory;
 
-/// Why a file was not opened. Source: own.
+/// Why a file was not opened.
 #[derive(Clone, Copy, Debug, PartialEq, Eq)]
 pub enum OpenFault {
     /// The shelf counted a fault.

@@ -1,20 +1,23 @@
 //! The outside as traits: sources of bytes, sinks that take bytes, and a shelf of named files.
-//! What an object of the outside holds is told or not; that it failed shows in a count that never falls.
+//! What an object outside holds is told or not. That it failed shows in a count that never falls.
 //! Every proof above this crate rests on the clauses of these traits alone.
 //! In memory there are sources, sinks and a shelf that tell everything and fail by plan.
+//!
 //! Definitions: `specs/Told` (contents), `specs/Asked` (reads), `specs/Written` (writes), `specs/Files`,
-//! `specs/Plan` and `specs/MemSource` (in memory).
+//! `specs/Plan` and `specs/MemSource` (in memory). It stands on `lists`.
+//! `system_files` has the real files and streams. `array_file`, `chunk_store` and `search_run` read and write
+//! through the traits, and the tests use the objects in memory.
 #![tactic(auto)]
 
-pub mod fault;
-pub mod mem_shelf;
-pub mod mem_sink;
-pub mod mem_source;
-pub mod plan;
-pub mod shelf;
-pub mod sink;
-pub mod source;
-pub mod sure_source;
+mod fault;
+mod mem_shelf;
+mod mem_sink;
+mod mem_source;
+mod plan;
+mod shelf;
+mod sink;
+mod source;
+mod sure_source;
 
 pub use crate::fault::{Failed, NoMemory, OpenFault};
 pub use crate::mem_shelf::MemShelf;

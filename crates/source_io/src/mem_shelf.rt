@@ -1,4 +1,4 @@
-//! A shelf in memory.
+//! A shelf in memory, whose calls fail by a plan. The tests run the tool on it.
 ghost use Rattle.std.specs.Prelude.{◌≡◌, ℕ, ◌+◌, ◌≤◌, [], Some, None, map, option_map, ◌≢◌, string_bytes, vec_len, vec_capacity};
 ghost use Rattle.std.specs.List.{flat_map};
 ghost use Rattle.std.specs.Option.{option_copied};
@@ -9,7 +9,7 @@ ghost use Rattle.source_io.specs.MemSource.{reads_by};
 use crate::{ByteSource, MemSink, MemSource, OpenFault, Plan, Shelf};
 use std::alloc::Global;
 
-/// A shelf of files in memory, whose calls fail by a plan. It tells everything. Source: own.
+/// A shelf of files in memory, whose calls fail by a plan. It tells everything.
 ///
 /// Openings and creatings are numbered together, from 1. One that ends in `NoMemory` has no number. One
 /// that the plan names fails, and so does an opening of a name that no file has. What `close` needs was
@@ -71,36 +71,35 @@ impl MemShelf {
         self.opened.as_slice()
     }
 
-    /// The sources that came back, in that order. Each has its name and the reads that it was asked.
+    /// The sources that came back, in that order. Each has its name and the record of its reads.
     pub fn returned(&self) -> &[MemSource]
         ensures { ⟦<MemShelf as Shelf>⟧.asked self.now ≡ Some (flat_map reads_by result.now) }
     {
         self.returned.as_slice()
     }
 
-    /// How many sources are lent.
+    /// How many sources are open.
     pub fn lent(&self) -> usize
         ensures { result ≡ ⟦<MemShelf as Shelf>⟧.lent self.now }
     {
         self.lent
     }
 
-    /// How many openings and creatings were not done. The count ends at the greatest u64.
+    /// How many openings and creatings failed. The count ends at `u64::MAX`.
     pub fn faults(&self) -> u64
         ensures { result ≡ ⟦<MemShelf as Shelf>⟧.faults self.now }
     {
         self.faults
     }
 
-    /// How many reads were not done by the sources that came back. The count ends at the greatest u64.
+    /// How many reads of the sources that came back failed. The count ends at `u64::MAX`.
     pub fn source_faults(&self) -> u64
         ensures { result ≡ ⟦<MemShelf as Shelf>⟧.source_faults self.now }
     {
         self.source_faults
     }
 
-    /// How many writes were not done by the sinks of the files that were finished. The count ends at the
-    /// greatest u64.
+    /// How many writes to the finished files failed. The count ends at `u64::MAX`.
     pub fn sink_faults(&self) -> u64
         ensures { result ≡ ⟦<MemShelf as Shelf>⟧.sink_faults self.now }
     {

@@ -1,11 +1,11 @@
-//! A sink in memory.
+//! A sink in memory: what a file becomes that is created on a shelf in memory.
 ghost use Rattle.std.specs.Prelude.{◌≡◌, ◌+◌, ◌≤◌, [], Some, IfOk, vec_len, vec_capacity};
 
-use crate::plan::portion;
+use crate::plan::bytes_per_call;
 use crate::{Failed, NoMemory, Sink};
 use std::alloc::Global;
 
-/// A sink that keeps the bytes that it takes. It takes no memory when it writes. Source: own.
+/// A sink that keeps the bytes that it takes. A write takes no memory.
 #[derive(Drop)]
 pub struct MemSink {
     bytes: Vec<u8>,
@@ -19,8 +19,8 @@ pub struct MemSink {
 
 impl MemSink {
     /// A sink that can hold `room` bytes. A write takes at most `step` bytes, where 0 means all, and no more
-    /// than there is room for. Writes are numbered from 1, also those that are not done. One whose number
-    /// stands in `fails` is not done, nor is one that finds no room left.
+    /// than there is room for. Writes are numbered from 1, failed ones included. One fails if its number is in
+    /// `fails`, or if no room is left. `NoMemory` where there is no memory for the bytes.
     pub fn new(
         alloc: Global,
         room: usize,
@@ -50,14 +50,14 @@ impl MemSink {
         self.bytes.as_slice()
     }
 
-    /// How many writes were not done. The count ends at the greatest u64.
+    /// How many writes failed. The count ends at `u64::MAX`.
     pub fn faults(&self) -> u64
         ensures { result ≡ ⟦<MemSink as Sink>⟧.faults self.now }
     {
         self.faults
     }
 
-    /// The bytes that were written, in order, in the memory that they stand in.
+    /// The bytes that were written, in order. It takes no memory.
     pub(crate) fn into_bytes(self) -> Vec<u8>
         ensures { ⟦<MemSink as Sink>⟧.written self ≡ Some result.items }
     {
@@ -72,7 +72,7 @@ impl Sink for MemSink {
 
     fn write(&mut self, piece: &[u8]) -> Result<usize, Failed> {
         self.writes = self.writes.saturating_add(1);
-        let n = portion(self.step, piece.len()).min(self.room);
+        let n = bytes_per_call(self.step, piece.len()).min(self.room);
         if n == 0 || self.fails.contains(&self.writes) {
             self.faults = self.faults.saturating_add(1);
             return Err(Failed);

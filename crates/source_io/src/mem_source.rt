@@ -1,15 +1,14 @@
-//! A source in memory.
+//! A source in memory: what a shelf in memory lends.
 ghost use Rattle.std.specs.Prelude.{◌≡◌, ◌+◌, ◌≤◌, [], Some, IfOk, length, string_bytes, vec_len, vec_capacity};
 
-use crate::plan::portion;
+use crate::plan::bytes_per_call;
 use crate::{ByteSource, Failed, NoMemory, Plan};
 use std::alloc::Global;
 
-/// A file that a shelf in memory lends. Source: own.
+/// A file that a shelf in memory lends.
 ///
-/// Its reads are numbered from 1, also those that are not done. One that the plan names is not done, nor
-/// is one for whose record there is no room. Those that are done are recorded, and no others. It takes no
-/// memory when it reads.
+/// Its reads are numbered from 1, failed ones included. One fails if the plan names it, or if there is no room
+/// to record it. Those that do not fail are recorded, and no others. A read takes no memory.
 #[derive(Drop)]
 pub struct MemSource {
     name: String,
@@ -25,7 +24,8 @@ pub struct MemSource {
 }
 
 impl MemSource {
-    /// A source of these bytes, opened as `name` by the opening of this number, whose reads go by the plan.
+    /// A source of these bytes, opened as `name`. The plan says which reads fail on the opening of this number.
+    /// `NoMemory` where there is no memory for the copies of the name, the bytes and the plan, or for the record.
     pub(crate) fn new(
         alloc: Global,
         name: &str,
@@ -70,14 +70,14 @@ impl MemSource {
         self.name.as_str()
     }
 
-    /// The place and the length of each read that was done, in order.
+    /// The offset and the length of each read that did not fail, in order.
     pub fn asked(&self) -> &[(u64, usize)]
         ensures { ⟦<MemSource as ByteSource>⟧.asked self.now ≡ Some result.now }
     {
         self.asked.as_slice()
     }
 
-    /// How many reads were not done. The count ends at the greatest u64.
+    /// How many reads failed. The count ends at `u64::MAX`.
     pub fn faults(&self) -> u64
         ensures { result ≡ ⟦<MemSource as ByteSource>⟧.faults self.now }
     {
@@ -100,16 +100,16 @@ impl ByteSource for MemSource {
         self.bytes.len() as u64
     }
 
-    fn read_at(&mut self, at: u64, into: &mut [u8]) -> Result<usize, Failed> {
+    fn read_at(&mut self, offset: u64, into: &mut [u8]) -> Result<usize, Failed> {
         self.reads = self.reads.saturating_add(1);
         if self.room == 0 || self.fails.contains(&(self.opening, self.reads)) {
             self.faults = self.faults.saturating_add(1);
             return Err(Failed);
         }
-        self.asked.push_reserved((at, into.len()));
+        self.asked.push_reserved((offset, into.len()));
         self.room -= 1;
-        let n = portion(self.step, into.len());
-        let from = at as usize;
+        let n = bytes_per_call(self.step, into.len());
+        let from = offset as usize;
         into[..n].copy_from_slice(&self.bytes.as_slice()[from..from + n]);
         Ok(n)
     }

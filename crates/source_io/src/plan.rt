@@ -1,10 +1,11 @@
-//! Which calls of a shelf in memory, and of what it lends, fail.
+//! Which calls of a shelf in memory fail, and which of its sources and sinks.
 ghost use Rattle.std.specs.Prelude.{◌≡◌, [], IfOk};
-ghost use Rattle.source_io.specs.Plan.{portion_of, writes_of};
+ghost use Rattle.source_io.specs.Plan as plan;
+ghost use Rattle.source_io.specs.Plan.{writes_of};
 
 use std::alloc::{AllocError, Global};
 
-/// Which calls fail, and how much a call does. Source: own.
+/// Which calls fail, and how much a call does.
 #[derive(Drop)]
 pub struct Plan {
     /// The openings and creatings that fail, by their numbers from 1. Both are numbered together.
@@ -51,8 +52,8 @@ impl Plan {
 }
 
 /// How many of the wanted bytes a call takes: at most `step`, and all where `step` is 0.
-pub(crate) fn portion(step: usize, wanted: usize) -> usize
-    ensures { result ≡ portion_of step wanted }
+pub(crate) fn bytes_per_call(step: usize, wanted: usize) -> usize
+    ensures { result ≡ plan.bytes_per_call step wanted }
 {
     if step == 0 { wanted } else { step.min(wanted) }
 }

@@ -1,32 +1,31 @@
-//! Shelves of named files.
+//! Shelves of named files: where a command opens what it reads and creates what it makes.
 ghost use Rattle.std.specs.Prelude.{◌≡◌, ℕ, ◌∷◌, [], ◌+◌, ◌-◌, ◌^◌, ◌<◌, ◌≤◌, List, Option, Some, None, IfOk, IfSome, OnOk, OnErr, IsErrOf, min};
 ghost use Rattle.source_io.specs.Told.{Rose};
 ghost use Rattle.source_io.specs.Asked.{Read, asked_under};
 ghost use Rattle.source_io.specs.Files.{Files, IsHeld, file_of, with_written};
-ghost use Rattle.source_io.specs.Written.{appended};
+ghost use Rattle.lists.specs.Appending.{appended};
 
 use crate::{ByteSource, OpenFault, Sink};
 
-/// A place of named files. It lends sources, and each is handed back. It makes one file at a time: the
-/// sink of a created file takes the bytes, and the file stands on the shelf once it is finished.
-/// Source: own.
+/// Named files. A shelf lends sources, and each is handed back. It makes one file at a time: the sink of a
+/// created file takes the bytes, and the file is on the shelf once it is finished.
 pub trait Shelf {
-    /// What it lends.
+    /// An open file.
     type Source: ByteSource + Send;
 
-    /// What takes the bytes of a created file.
+    /// A created file that is not finished.
     type Out: Sink;
 
     /// The files by their names, where they are told.
     ghost holds: { Self → Option Files };
 
-    /// How many openings and creatings were not done.
+    /// How many openings and creatings failed.
     ghost faults: { Self → ℕ };
 
-    /// How many reads were not done by the sources that were handed back.
+    /// How many reads of the sources that were handed back failed.
     ghost source_faults: { Self → ℕ };
 
-    /// How many writes were not done by the sinks of the files that were finished.
+    /// How many writes to the finished files failed.
     ghost sink_faults: { Self → ℕ };
 
     /// Each recorded read of the sources that were handed back, with the name, where they are told.
@@ -35,14 +34,16 @@ pub trait Shelf {
     /// The names that were opened or created, in order, also those where it failed, where they are told.
     ghost opened: { Self → Option (List (List ℕ)) };
 
-    /// How many sources are lent.
+    /// How many sources are lent and not handed back.
     ghost lent: { Self → ℕ };
 
     /// The name of the file that was created and is not finished.
     ghost making: { Self → Option (List ℕ) };
 
-    /// Lends the file of a name. `Failed` where it was not opened, which the shelf counts; so where
-    /// no file has the name. `NoMemory` leaves everything as it was.
+    /// Lends the file with a name.
+    ///
+    /// `Failed` where the file was not opened, also because no file has the name. The shelf counts it.
+    /// `NoMemory` leaves everything as it was.
     fn open(&mut self, name: &str) -> Result<Self::Source, OpenFault>
         requires { lent self.old < 2 ^ 32 }
         ensures held { OnOk result (IsHeld (holds self.old) name.now) }
@@ -62,12 +63,13 @@ pub trait Shelf {
         ensures same_asked { asked self.new ≡ asked self.old }
         ensures same_making { making self.new ≡ making self.old };
 
-    /// Takes a source back, with the count of its faults and the record of its reads.
+    /// Takes a source back. Its faults and its record of reads are added to those of the shelf.
     fn close(&mut self, source: Self::Source)
         requires { 0 < lent self.old }
         ensures lent { lent self.old ≡ lent self.new + 1 }
         ensures source_faults { source_faults self.new ≡ min (source_faults self.old + Self.Source.faults source) (2 ^ 64 - 1) }
         ensures never_falls { source_faults self.old ≤ source_faults self.new }
+        ensures cause { Rose 0 (Self.Source.faults source) → Rose (source_faults self.old) (source_faults self.new) }
         ensures asked { asked self.new ≡ asked_under (Self.Source.opened_as source) (Self.Source.asked source) (asked self.old) }
         ensures same_files { holds self.new ≡ holds self.old }
         ensures same_faults { faults self.new ≡ faults self.old }
@@ -75,9 +77,10 @@ pub trait Shelf {
         ensures same_opened { opened self.new ≡ opened self.old }
         ensures same_making { making self.new ≡ making self.old };
 
-    /// Begins a file of a name, and gives the sink that takes its bytes; where the shelf tells its files,
-    /// so does the sink what it took. The files stay as they are until it is finished. `Failed` where it
-    /// was not created, which the shelf counts. `NoMemory` leaves everything as it was.
+    /// Begins a file with a name, and gives the sink that takes its bytes. Where the shelf tells its files,
+    /// the sink tells what it took. The files stay as they are until the new one is finished.
+    ///
+    /// `Failed` where the file was not created. The shelf counts it. `NoMemory` leaves everything as it was.
     fn create(&mut self, name: &str) -> Result<Self::Out, OpenFault>
         requires { making self.old ≡ None }
         ensures told { IfOk result (λ out. IfSome (holds self.old) (λ _. Self.Out.written out ≡ Some [])) }
@@ -96,14 +99,15 @@ pub trait Shelf {
         ensures same_asked { asked self.new ≡ asked self.old }
         ensures same_lent { lent self.new ≡ lent self.old };
 
-    /// Ends the file that was created as `name`: what its sink took is what the shelf holds at the name,
-    /// in place of what it held there. The count of the sink's faults is added. It takes no memory.
+    /// Ends the file that was created as `name`. What its sink took replaces what the shelf held under the
+    /// name. The faults of the sink are added to those of the shelf. It takes no memory.
     fn finish(&mut self, name: &str, out: Self::Out)
         requires { making self.old ≡ Some name.now }
         ensures held { holds self.new ≡ with_written (holds self.old) name.now (Self.Out.written out) }
         ensures making { making self.new ≡ None }
         ensures sink_faults { sink_faults self.new ≡ min (sink_faults self.old + Self.Out.faults out) (2 ^ 64 - 1) }
         ensures never_falls { sink_faults self.old ≤ sink_faults self.new }
+        ensures cause { Rose 0 (Self.Out.faults out) → Rose (sink_faults self.old) (sink_faults self.new) }
         ensures same_faults { faults self.new ≡ faults self.old }
         ensures same_source_faults { source_faults self.new ≡ source_faults self.old }
         ensures same_asked { asked self.new ≡ asked self.old }

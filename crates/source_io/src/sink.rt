@@ -1,20 +1,21 @@
-//! Sinks of bytes.
+//! Sinks of bytes: what everything that is printed or written goes to.
 ghost use Rattle.std.specs.Prelude.{◌≡◌, ℕ, ◌<◌, ◌≤◌, List, length, take, Option, IfOk, OnErr};
 ghost use Rattle.source_io.specs.Told.{Rose};
-ghost use Rattle.source_io.specs.Written.{appended, Writes};
+ghost use Rattle.lists.specs.Appending.{appended};
+ghost use Rattle.source_io.specs.Written.{Writes};
 
 use crate::Failed;
 
-/// What takes bytes, as standard output or a created file. Source: own.
+/// What takes bytes, such as standard output or a created file.
 pub trait Sink {
     /// The bytes that it took, in order, where they are told.
     ghost written: { Self → Option (List ℕ) };
 
-    /// How many writes were not done.
+    /// How many writes failed.
     ghost faults: { Self → ℕ };
 
-    /// Takes the first bytes of the piece, one at least, and answers how many.
-    /// `Failed` where the write was not done, which the sink counts; it then took nothing.
+    /// Takes a prefix of the piece, at least one byte, and answers how many bytes it took.
+    /// `Failed` where the write failed. The sink counts it, and took nothing.
     fn write(&mut self, piece: &[u8]) -> Result<usize, Failed>
         requires { 0 < length piece.now }
         ensures count { IfOk result (λ n. (0 < n) × (n ≤ length piece.now)) }
@@ -24,9 +25,8 @@ pub trait Sink {
         ensures faults { faults self.old ≤ faults self.new };
 }
 
-/// Writes the whole piece, by as many writes as it takes.
-/// `Failed` where one of them was not done; a front of the piece was then taken. An empty piece makes no write.
-/// Source: own.
+/// Writes the whole piece, by as many writes as it takes. An empty piece makes no write.
+/// `Failed` where one of them failed. The sink then took a prefix of the piece.
 pub fn write_whole<K: Sink>(sink: &mut K, piece: &[u8]) -> Result<(), Failed>
     ensures written { Writes result piece.now (K.written sink.old) (K.written sink.new) }
     ensures cause { OnErr result (Rose (K.faults sink.old) (K.faults sink.new)) }

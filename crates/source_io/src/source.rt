@@ -1,11 +1,11 @@
-//! Sources of bytes.
+//! Sources of bytes: what every file is read through.
 ghost use Rattle.std.specs.Prelude.{◌≡◌, ℕ, ◌+◌, ◌<◌, ◌≤◌, ◌⊎◌, List, length, Option, IfOk, OnOk, OnErr};
 ghost use Rattle.source_io.specs.Told.{Rose, Fills, Holds, SizeIs};
 ghost use Rattle.source_io.specs.Asked.{Asks, AsksOne};
 
 use crate::Failed;
 
-/// A file that is read at places of one's choice. Source: own.
+/// A file that is read at any offset.
 pub trait ByteSource {
     /// Its bytes, where they are told.
     ghost bytes: { Self → Option (List ℕ) };
@@ -13,13 +13,13 @@ pub trait ByteSource {
     /// How many bytes it has, told or not.
     ghost len: { Self → ℕ };
 
-    /// The place and the length of each recorded read, in order, where they are told.
+    /// The offset and the length of each recorded read, in order, where they are told.
     ghost asked: { Self → Option (List (ℕ × ℕ)) };
 
     /// The name that it was opened as, where it is told.
     ghost opened_as: { Self → Option (List ℕ) };
 
-    /// How many reads were not done.
+    /// How many reads failed.
     ghost faults: { Self → ℕ };
 
     /// The number of bytes. It never changes.
@@ -27,20 +27,20 @@ pub trait ByteSource {
         ensures size { result ≡ len self.now }
         ensures told { SizeIs (bytes self.now) result };
 
-    /// Reads bytes from place `at` into the first places of `into`, one at least, and answers how many.
-    /// `Failed` where the read was not done, which the source counts; `into` is then unchanged.
-    fn read_at(&mut self, at: u64, into: &mut [u8]) -> Result<usize, Failed>
+    /// Reads bytes from an offset on to the beginning of `into`, at least one, and answers how many.
+    /// `Failed` where the read failed. The source counts it, and `into` is unchanged.
+    fn read_at(&mut self, offset: u64, into: &mut [u8]) -> Result<usize, Failed>
         requires some { 0 < length into.old }
-        requires within { at + length into.old ≤ len self.old }
+        requires within { offset + length into.old ≤ len self.old }
         ensures count { IfOk result (λ n. (0 < n) × (n ≤ length into.old)) }
-        ensures bytes { IfOk result (λ n. Fills (bytes self.old) at n into.old into.new) }
+        ensures bytes { IfOk result (λ n. Fills (bytes self.old) offset n into.old into.new) }
         ensures unchanged { OnErr result (into.new ≡ into.old) }
         ensures cause { OnErr result (Rose (faults self.old) (faults self.new)) }
         ensures faults { faults self.old ≤ faults self.new }
 
-        // A read that was done is recorded, and one that was not may be.
-        ensures asked { OnOk result (AsksOne (asked self.old) (asked self.new) (at, length into.old)) }
-        ensures failed { OnErr result (AsksOne (asked self.old) (asked self.new) (at, length into.old) ⊎ (asked self.new ≡ asked self.old)) }
+        // A read that did not fail is recorded, and one that failed may be.
+        ensures asked { OnOk result (AsksOne (asked self.old) (asked self.new) (offset, length into.old)) }
+        ensures failed { OnErr result (AsksOne (asked self.old) (asked self.new) (offset, length into.old) ⊎ (asked self.new ≡ asked self.old)) }
 
         // Reading changes nothing else.
         ensures same_bytes { bytes self.new ≡ bytes self.old }
@@ -48,14 +48,14 @@ pub trait ByteSource {
         ensures same_name { opened_as self.new ≡ opened_as self.old };
 }
 
-/// Fills the whole of `into` with the bytes from place `at`, by as many reads as it takes.
-/// `Failed` where one of them was not done. An empty `into` makes no read. Source: own.
-pub fn read_whole<S: ByteSource>(src: &mut S, at: u64, into: &mut [u8]) -> Result<(), Failed>
-    requires { at + length into.old ≤ S.len src.old }
-    ensures bytes { OnOk result (Holds (S.bytes src.old) at (length into.old) into.new) }
+/// Fills the whole of `into` with the bytes from an offset on, by as many reads as it takes. An empty `into`
+/// makes no read. `Failed` where one of them failed.
+pub fn read_whole<S: ByteSource>(src: &mut S, offset: u64, into: &mut [u8]) -> Result<(), Failed>
+    requires { offset + length into.old ≤ S.len src.old }
+    ensures bytes { OnOk result (Holds (S.bytes src.old) offset (length into.old) into.new) }
     ensures cause { OnErr result (Rose (S.faults src.old) (S.faults src.new)) }
     ensures faults { S.faults src.old ≤ S.faults src.new }
-    ensures asked { Asks (S.asked src.old) (S.asked src.new) at (at + length into.old) }
+    ensures asked { Asks (S.asked src.old) (S.asked src.new) offset (offset + length into.old) }
     ensures same_bytes { S.bytes src.new ≡ S.bytes src.old }
     ensures same_len { S.len src.new ≡ S.len src.old }
     ensures same_name { S.opened_as src.new ≡ S.opened_as src.old }
@@ -63,7 +63,7 @@ pub fn read_whole<S: ByteSource>(src: &mut S, at: u64, into: &mut [u8]) -> Resul
     let _size = src.size();
     let mut done = 0;
     while done < into.len() {
-        done += src.read_at(at + done as u64, &mut into[done..])?;
+        done += src.read_at(offset + done as u64, &mut into[done..])?;
     }
     Ok(())
 }

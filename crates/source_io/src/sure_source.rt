@@ -1,14 +1,13 @@
-//! A source in memory whose reads never fail.
+//! A source in memory whose reads never fail. The tests read array files from it.
 ghost use Rattle.std.specs.Prelude.{◌≡◌, Some, None, length, IsOk};
 ghost use Rattle.source_io.specs.Told.{Fills};
 
 use crate::{ByteSource, Failed};
 
 /// Bytes in memory. It tells its bytes, fills each read whole, and its count of faults is the constant 0.
-/// Source: own.
 #[derive(Drop)]
 pub struct SureSource {
-    /// What is read.
+    /// The bytes, from offset 0 on.
     pub bytes: Vec<u8>,
 }
 
@@ -27,8 +26,8 @@ impl ByteSource for SureSource {
         self.bytes.len() as u64
     }
 
-    fn read_at(&mut self, at: u64, into: &mut [u8]) -> Result<usize, Failed> {
-        let from = at as usize;
+    fn read_at(&mut self, offset: u64, into: &mut [u8]) -> Result<usize, Failed> {
+        let from = offset as usize;
         let n = into.len();
         into.copy_from_slice(&self.bytes.as_slice()[from..from + n]);
         Ok(n)

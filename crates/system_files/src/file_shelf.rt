@@ -1,4 +1,4 @@
-//! The files of the system as a shelf.
+//! The system's files as a shelf, which the program runs its command on.
 ghost use Rattle.std.specs.Prelude.{◌≡◌, None, IfSome, option_map, string_bytes};
 ghost use Rattle.std.specs.Fs.{IsFile, file_type};
 
@@ -11,21 +11,20 @@ use std::fs;
 use std::fs::{Files, Metadata, OpenFile};
 use std::os::unix::fs::FileExt;
 
-/// The files that a runtime reaches by their paths. It tells nothing of what they hold.
-/// Source: own.
+/// The files that a runtime reaches by their paths. As a shelf it does not tell what they hold.
 #[derive(Drop)]
 pub struct FileShelf<R> {
     /// What opens and creates files.
     pub rt: R,
-    /// Where the sources' buffers and the name come from.
+    /// What allocates the buffers of the sources, and the copy of the name of a created file.
     pub alloc: Global,
-    /// How many openings and creatings were not done. At its last value it stays.
+    /// How many openings and creatings failed. The count ends at `u64::MAX`.
     pub faults: u64,
-    /// How many reads were not done by the sources that came back. At its last value it stays.
+    /// How many reads of the sources that came back failed. The count ends at `u64::MAX`.
     pub source_faults: u64,
-    /// How many writes were not done by the sinks of the files that were finished. At its last value it stays.
+    /// How many writes to the finished files failed. The count ends at `u64::MAX`.
     pub sink_faults: u64,
-    /// How many sources are lent.
+    /// How many sources are lent and did not come back.
     pub lent: u64,
     /// The name of the file that was created and is not finished.
     pub making: Option<String>,
@@ -77,11 +76,11 @@ where
     ghost making = { λ s. option_map string_bytes s.making };
 
     fn open(&mut self, name: &str) -> Result<FileSource<R::File>, OpenFault> {
-        let Some((file, found)) = open_file(&self.rt, name) else {
+        let Some((file, metadata)) = open_file(&self.rt, name) else {
             self.faults = one_more(self.faults);
             return Err(OpenFault::Failed);
         };
-        match FileSource::new(self.alloc, file, &found) {
+        match FileSource::new(self.alloc, file, &metadata) {
             Ok(source) => {
                 self.lent += 1;
                 Ok(source)
@@ -95,7 +94,7 @@ where
         self.lent -= 1;
     }
 
-    // A file of the path that is there already is made empty.
+    // A file that already has the path is made empty.
     fn create(&mut self, name: &str) -> Result<FileSink<R::File>, OpenFault> {
         let Ok(made) = String::from_str(self.alloc, name) else {
             return Err(OpenFault::NoMemory);
@@ -118,15 +117,15 @@ where
     }
 }
 
-/// The file of a path, open for reading, and what the system says of it, as its size.
-/// `None` where it was not opened, where nothing is said of it, and where it is no regular file.
+/// The file with a path, open for reading, and its metadata.
+/// `None` where it cannot be opened, where there is no metadata, and where it is not a regular file.
 fn open_file<R: Files>(rt: &R, path: &str) -> Option<(R::File, Metadata)>
     ensures { IfSome result (λ opened. IsFile (file_type opened.1)) }
 {
     let file = fs::open(rt, path).ok()?;
-    let found = file.metadata().ok()?;
-    if found.is_file() {
-        Some((file, found))
+    let metadata = file.metadata().ok()?;
+    if metadata.is_file() {
+        Some((file, metadata))
     } else {
         None
     }

@@ -1,4 +1,4 @@
-//! Created files as sinks of bytes.
+//! Created files as sinks of bytes. A shelf of files gives them.
 ghost use Rattle.std.specs.Prelude.{◌≡◌, ◌<◌, ◌≤◌, length, take, None, IfOk, OnErr};
 ghost use Rattle.std.specs.Io.KnownBytes.{Keeps, Appends};
 ghost use Rattle.source_io.specs.Told.{Rose};
@@ -8,13 +8,12 @@ use crate::one_write::write_some;
 use source_io::{Failed, Sink};
 use std::io::Write;
 
-/// A created file, which takes bytes at its end. As a sink it tells nothing of what it took.
+/// A created file, which takes bytes at its end. As a sink it does not tell what it took.
 /// A write goes to the file at once: a buffer would hide a fault.
-/// Source: own.
 pub struct FileSink<F> {
-    /// The file, which is open for writing.
+    /// The file, open for writing.
     pub file: F,
-    /// How many writes were not done. At its last value it stays.
+    /// How many writes failed. The count ends at `u64::MAX`.
     pub faults: u64,
 }
 
@@ -52,7 +51,7 @@ impl<F: Write> Sink for FileSink<F> {
         ensures cause { OnErr result (Rose self.old.faults self.new.faults) }
         ensures faults { self.old.faults ≤ self.new.faults }
 
-        // Where the file's writer tells its bytes, it took just those that the answer counts.
+        // Where the contents of the file are known, it took exactly the bytes that the answer counts.
         ensures taken { IfOk result (λ n. Appends (F.contents self.old.file) (F.contents self.new.file) (take n piece.now)) }
         ensures kept { OnErr result (Keeps (F.contents self.old.file) (F.contents self.new.file)) }
     {

@@ -1,4 +1,4 @@
-//! Open files as sources of bytes.
+//! Open files as sources of bytes. A shelf of files lends them.
 ghost use Rattle.std.specs.Prelude.{◌≡◌, None, IfOk};
 ghost use Rattle.std.specs.Fs.{metadata_len};
 
@@ -9,32 +9,31 @@ use std::alloc::Global;
 use std::fs::Metadata;
 use std::os::unix::fs::FileExt;
 
-/// An open file. Its size is what it was when the file was opened. It tells nothing of its bytes.
-/// Source: own.
+/// An open file. Its size is the size that it had when it was opened. As a source it does not tell its bytes.
 pub struct FileSource<F> {
-    /// The file, which is read at places.
+    /// The file, open for reading.
     pub file: F,
     /// How many bytes the file had when it was opened.
     pub size: u64,
-    /// How many reads were not done. At its last value it stays.
+    /// How many reads failed. The count ends at `u64::MAX`.
     pub faults: u64,
-    /// Where its bytes come in, before they are handed on.
+    /// The bytes that were read and not yet handed out.
     pub ahead: ReadAhead,
 }
 
 impl<F: FileExt> FileSource<F> {
-    /// A source over an open file, of the size that was found, with no faults.
-    /// `NoMemory` where there is no memory for the buffer; the file is then closed.
-    pub fn new(alloc: Global, file: F, found: &Metadata) -> Result<FileSource<F>, NoMemory>
+    /// A source over an open file, with the size in its metadata and no faults.
+    /// `NoMemory` where there is no memory for the buffer. The file is then closed.
+    pub fn new(alloc: Global, file: F, metadata: &Metadata) -> Result<FileSource<F>, NoMemory>
     where
         F: Drop,
-        ensures size { IfOk result (λ s. s.size ≡ metadata_len found.now) }
+        ensures size { IfOk result (λ s. s.size ≡ metadata_len metadata.now) }
         ensures file { IfOk result (λ s. s.file ≡ file) }
         ensures faults { IfOk result (λ s. s.faults ≡ 0) }
     {
         Ok(FileSource {
             file,
-            size: found.len(),
+            size: metadata.len(),
             faults: 0,
             ahead: ReadAhead::new(alloc)?,
         })
@@ -71,10 +70,14 @@ impl<F: FileExt> ByteSource for FileSource<F> {
         self.size
     }
 
-    fn read_at(&mut self, at: u64, into: &mut [u8]) -> Result<usize, Failed> {
-        let left = self.size - at;
-        if self.ahead.has(at) || self.ahead.fetch(&self.file, at, into.len() as u64, left) {
-            return Ok(self.ahead.hand_out(at, into));
+    fn read_at(&mut self, offset: u64, into: &mut [u8]) -> Result<usize, Failed> {
+        let left = self.size - offset;
+        if self.ahead.has(offset)
+            || self
+                .ahead
+                .fetch(&self.file, offset, into.len() as u64, left)
+        {
+            return Ok(self.ahead.hand_out(offset, into));
         }
         self.faults = one_more(self.faults);
         Err(Failed)

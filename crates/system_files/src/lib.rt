@@ -1,17 +1,19 @@
 //! The system's files and streams, as the sources, sinks and shelf of `source_io`.
-//! This is the trusted edge: what a file holds and what a stream takes is told by no clause.
-//! That a read, a write or an opening failed shows in the counts, by the clauses of `source_io`.
-//! What the system itself does is what std's clauses say of its calls.
+//! This is the trusted edge: no clause tells what a file holds or what a stream took. That a read, a write or an
+//! opening failed shows in the counts, by the clauses of `source_io`. What the system does is what std's clauses
+//! say of its calls.
+//!
+//! There are no definitions here. It stands on `source_io`. The program `searchlight` runs on it.
 #![tactic(auto)]
 
-pub mod fault_count;
-pub mod file_shelf;
-pub mod file_sink;
-pub mod file_source;
-pub mod one_write;
-pub mod read_ahead;
-pub mod stream_sink;
-pub mod tries;
+mod fault_count;
+mod file_shelf;
+mod file_sink;
+mod file_source;
+mod one_write;
+mod read_ahead;
+mod stream_sink;
+mod tries;
 
 pub use crate::file_shelf::FileShelf;
 pub use crate::file_sink::FileSink;

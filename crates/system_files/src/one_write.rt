@@ -1,12 +1,12 @@
-//! One write to what the system gives.
+//! One write to a file or a stream of the system, for the sinks.
 ghost use Rattle.std.specs.Prelude.{◌<◌, ◌≤◌, length, take, IfSome, IfNone};
 ghost use Rattle.std.specs.Io.KnownBytes.{Keeps, Appends};
 
 use crate::tries::TRIES;
 use std::io::{ErrorKind, Write};
 
-/// One write, and how many bytes were taken; `None` where it was not done, and where no byte was taken.
-/// A write that a signal breaks off is tried again, `TRIES` times in all. Source: own.
+/// Makes one write, and answers how many bytes it took. `None` where it failed, or took no byte.
+/// A write that a signal interrupts is tried again, `TRIES` times in all.
 pub fn write_some<W: Write>(writer: &mut W, piece: &[u8]) -> Option<usize>
     ensures count { IfSome result (λ n. (0 < n) × (n ≤ length piece.now)) }
     ensures taken { IfSome result (λ n. Appends (W.contents writer.old) (W.contents writer.new) (take n piece.now)) }

@@ -1,4 +1,4 @@
-//! A buffer before a file that is mostly read from its front to its end.
+//! A buffer for a file that is mostly read from its beginning to its end. Each file source has one.
 ghost use Rattle.std.specs.Prelude.{◌≡◌, ◌<◌, ◌≤◌, ◌+◌, ◌-◌, ◌^◌, ◌++◌, length, take, drop, true, false, IfOk, IfSome, vec_len};
 ghost use Rattle.system_files.specs.declared.read_ahead.TheConstants.{ROOM};
 
@@ -8,21 +8,20 @@ use std::alloc::Global;
 use std::io::ErrorKind;
 use std::os::unix::fs::FileExt;
 
-/// How many bytes the buffer holds, and so how many one read of the system takes at most. Source: own.
+/// The size of the buffer in bytes. One read of the system takes at most so many.
 pub const ROOM: usize = 65536;
 
-/// Some bytes of a file that were read and may be handed out. A read that goes on where the one before ended
-/// takes a buffer full, so that the next ones need not ask the system; any other takes what is wanted alone.
-/// Source: own.
+/// Some bytes of a file that were read and may be handed out. A read that continues where the one before ended
+/// fills the buffer, so that the next ones need not ask the system. Any other reads only what is wanted.
 #[derive(Drop)]
 pub struct ReadAhead {
-    /// Its first bytes are those of the file.
+    /// It begins with the bytes of the file that are held. What follows them is not of the file.
     pub buffer: Vec<u8>,
-    /// From which place of the file on they are.
-    pub from: u64,
-    /// How many there are.
+    /// The offset in the file of the first byte that is held.
+    pub start: u64,
+    /// How many bytes are held.
     pub held: usize,
-    /// Where the bytes ended that were handed out last; no place of a file where there were none.
+    /// The offset after the byte that was handed out last. `u64::MAX`, which is no offset of a file, before that.
     pub next: u64,
     ghost room: { vec_len buffer ≡ ROOM },
     ghost within: { held ≤ vec_len buffer },
@@ -37,7 +36,7 @@ impl ReadAhead {
         match buffer.resize(ROOM, 0) {
             Ok(()) => Ok(ReadAhead {
                 buffer,
-                from: 0,
+                start: 0,
                 held: 0,
                 next: u64::MAX,
             }),
@@ -45,60 +44,60 @@ impl ReadAhead {
         }
     }
 
-    /// Whether it holds the byte at this place.
-    pub fn has(&self, at: u64) -> bool
-        ensures { result ≡ true → (self.now.from ≤ at) × (at < self.now.from + self.now.held) }
+    /// Whether it holds the byte at this offset of the file.
+    pub fn has(&self, offset: u64) -> bool
+        ensures { result ≡ true → (self.now.start ≤ offset) × (offset < self.now.start + self.now.held) }
     {
-        at >= self.from && at - self.from < self.held as u64
+        offset >= self.start && offset - self.start < self.held as u64
     }
 
-    /// Reads from place `at`, where `wanted` bytes are asked for and `left` ones are there, and answers
-    /// whether one came at least. It then holds what came, and else nothing.
-    pub fn fetch<F: FileExt>(&mut self, file: &F, at: u64, wanted: u64, left: u64) -> bool
+    /// Reads from an offset on, where `wanted` bytes are asked for and the file has `left` bytes. Answers whether
+    /// at least one byte was read. It then holds what was read, and otherwise nothing.
+    pub fn fetch<F: FileExt>(&mut self, file: &F, offset: u64, wanted: u64, left: u64) -> bool
         requires some { 0 < wanted }
         requires within { wanted ≤ left }
-        ensures held { result ≡ true → (self.new.from ≡ at) × (0 < self.new.held) }
+        ensures held { result ≡ true → (self.new.start ≡ offset) × (0 < self.new.held) }
         ensures nothing { result ≡ false → self.new.held ≡ 0 }
     {
-        let most = if at == self.next { left } else { wanted };
+        let most = if offset == self.next { left } else { wanted };
         let most = most.min(ROOM as u64) as usize;
         self.held = 0;
-        let Some(n) = read_some(file, at, most, self.buffer.as_mut_slice()) else {
+        let Some(n) = read_some(file, offset, most, self.buffer.as_mut_slice()) else {
             return false;
         };
-        self.from = at;
+        self.start = offset;
         self.held = n;
         true
     }
 
-    /// Puts the bytes from place `at` that it holds into the first places of `into`, and answers how many.
-    pub fn hand_out(&mut self, at: u64, into: &mut [u8]) -> usize
+    /// Copies the bytes that it holds from an offset on to the beginning of `into`, and answers how many.
+    pub fn hand_out(&mut self, offset: u64, into: &mut [u8]) -> usize
         requires some { 0 < length into.old }
-        requires fits { at + length into.old < 2 ^ 64 }
-        requires from { self.old.from ≤ at }
-        requires held { at < self.old.from + self.old.held }
+        requires fits { offset + length into.old < 2 ^ 64 }
+        requires start { self.old.start ≤ offset }
+        requires held { offset < self.old.start + self.old.held }
         ensures count { (0 < result) × (result ≤ length into.old) }
-        ensures held { at + result ≤ self.old.from + self.old.held }
-        ensures bytes { into.new ≡ take result (drop (at - self.old.from) self.old.buffer.items) ++ drop result into.old }
+        ensures held { offset + result ≤ self.old.start + self.old.held }
+        ensures bytes { into.new ≡ take result (drop (offset - self.old.start) self.old.buffer.items) ++ drop result into.old }
         ensures rest { drop result into.new ≡ drop result into.old }
     {
-        let first = (at - self.from) as usize;
+        let first = (offset - self.start) as usize;
         let n = into.len().min(self.held - first);
-        put_first(into, &self.buffer[first..first + n]);
-        self.next = at + n as u64;
+        copy_to_beginning(into, &self.buffer[first..first + n]);
+        self.next = offset + n as u64;
         n
     }
 }
 
-/// One read at a place of at most so many bytes, and how many came; `None` where it was not done, and where
-/// no byte came. A read that a signal breaks off is tried again, `TRIES` times in all.
-fn read_some<F: FileExt>(file: &F, at: u64, most: usize, into: &mut [u8]) -> Option<usize>
+/// Makes one read of at most so many bytes from an offset on, and answers how many were read. `None` where it
+/// failed, or read no byte. A read that a signal interrupts is tried again, `TRIES` times in all.
+fn read_some<F: FileExt>(file: &F, offset: u64, most: usize, into: &mut [u8]) -> Option<usize>
     requires { most ≤ length into.old }
     ensures count { IfSome result (λ n. (0 < n) × (n ≤ most)) }
     ensures room { length into.new ≡ length into.old }
 {
     for _ in 0..TRIES {
-        match file.read_at(&mut into[..most], at) {
+        match file.read_at(&mut into[..most], offset) {
             Ok(0) => return None,
             Ok(n) => return Some(n),
             Err(e) if e.kind() == ErrorKind::Interrupted => {}
@@ -108,8 +107,8 @@ fn read_some<F: FileExt>(file: &F, at: u64, most: usize, into: &mut [u8]) -> Opt
     None
 }
 
-/// Puts the items into the first places; the other places stay.
-fn put_first(into: &mut [u8], items: &[u8])
+/// Copies the items to the beginning of `into`, which has room for them. The rest of it stays.
+fn copy_to_beginning(into: &mut [u8], items: &[u8])
     requires { length items.now ≤ length into.old }
     ensures { into.new ≡ items.now ++ drop (length items.now) into.old }
 {

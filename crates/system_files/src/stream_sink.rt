@@ -1,4 +1,4 @@
-//! Standard output and standard error as sinks.
+//! Standard output and standard error as sinks, which the program prints to.
 ghost use Rattle.std.specs.Prelude.{◌≡◌, ◌<◌, ◌≤◌, length, take, None, IfOk, OnErr};
 ghost use Rattle.std.specs.Io.KnownBytes.{Keeps, Appends};
 ghost use Rattle.source_io.specs.Told.{Rose};
@@ -8,14 +8,13 @@ use crate::one_write::write_some;
 use source_io::{Failed, Sink};
 use std::io::Write;
 
-/// A stream that bytes go to, as `rt.stdout()` or `rt.stderr()`. As a sink it tells nothing of what it took.
-/// The writer hands on what it takes at once, as those two do: a buffer would hide a fault.
-/// Source: own.
+/// A stream that bytes go to, such as `rt.stdout()` or `rt.stderr()`. As a sink it does not tell what it took.
+/// The writer has to pass on what it takes at once, as those two do: a buffer would hide a fault.
 #[derive(Drop)]
 pub struct StreamSink<W> {
     /// What takes the bytes.
     pub writer: W,
-    /// How many writes were not done. At its last value it stays.
+    /// How many writes failed. The count ends at `u64::MAX`.
     pub faults: u64,
 }
 
@@ -40,7 +39,7 @@ impl<W: Write> Sink for StreamSink<W> {
         ensures cause { OnErr result (Rose self.old.faults self.new.faults) }
         ensures faults { self.old.faults ≤ self.new.faults }
 
-        // Where the writer tells its bytes, it took just those that the answer counts.
+        // Where the contents of the writer are known, it took exactly the bytes that the answer counts.
         ensures taken { IfOk result (λ n. Appends (W.contents self.old.writer) (W.contents self.new.writer) (take n piece.now)) }
         ensures kept { OnErr result (Keeps (W.contents self.old.writer) (W.contents self.new.writer)) }
     {

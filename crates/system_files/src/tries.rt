@@ -1,5 +1,5 @@
-//! Calls of the system that a signal may break off.
+//! Calls of the system that a signal may interrupt: reads and writes.
 
-/// How often a read or a write is made that a signal breaks off, before it counts as not done.
-/// The program handles no signals, so that none should. Source: own.
+/// How often a read or a write is tried that a signal interrupts, before it counts as failed.
+/// The program handles no signals, so none should interrupt it.
 pub const TRIES: u32 = 16;

@@ -1,12 +1,13 @@
 use Rattle.std.proofs.Common.{◌≡◌, [], ◌∷◌, slice_index, Some, None, MatchResult, subst}
-use Rattle.grid_cells.specs.LayoutParts.{LayoutParts}
-use Rattle.grid_cells.specs.Rules.{first_broken, layout_rules}
+use Rattle.layouts.specs.declared.numbers.LayoutNumbers.{LayoutNumbers}
+use Rattle.lists.specs.Rules.{first_broken}
+use Rattle.layouts.specs.Rules.{layout_rules}
 use Rattle.array_file.specs.Header.{layout_in}
 use Rattle.array_file.proofs.header.layout_from.Goals as goal
 
 pub returns : goal.returns
 returns c =
-    let parts : LayoutParts = record {
+    let parts : LayoutNumbers = record {
       rank = slice_index c.args.numbers.now 1;
       extents = c.three-5.result;
       chunk = c.three-6.result;
@@ -21,5 +22,5 @@ returns c =
       blocks = c.three.ensures i ∷ c.three-2.ensures i ∷ c.three-3.ensures i ∷ c.three-4.ensures i ∷ [];
     } in
     subst
-    (λ (stated : LayoutParts). MatchResult c.new.result (λ l. (first_broken (layout_rules stated) ≡ None) × (l ≡ stated)) (λ r. first_broken (layout_rules stated) ≡ Some r))
+    (λ (stated : LayoutNumbers). MatchResult c.new.result (λ l. (first_broken (layout_rules stated) ≡ None) × (l ≡ stated)) (λ r. first_broken (layout_rules stated) ≡ Some r))
     same c.new.ensures

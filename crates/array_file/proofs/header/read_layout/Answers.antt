@@ -1,7 +1,8 @@
 use Rattle.std.proofs.Common.{List, ℕ, Some, slice_index, sym, ap, ◌∙◌, arith}
-use Rattle.grid_cells.specs.LayoutParts.{LayoutParts}
-use Rattle.grid_cells.specs.Rules.{first_broken, layout_rules}
-use Rattle.grid_cells.specs.declared.refusal.LayoutRefusal.TheVariants.{Version, WrongLength}
+use Rattle.layouts.specs.declared.numbers.LayoutNumbers.{LayoutNumbers}
+use Rattle.lists.specs.Rules.{first_broken}
+use Rattle.layouts.specs.Rules.{layout_rules}
+use Rattle.array_file.specs.declared.refusal.FileRefusal.TheVariants.{Version, WrongLength}
 use Rattle.array_file.specs.Header.{file_size}
 use Rattle.array_file.proofs.Headers.{layout_in-numbers, layout_refusal-short, layout_refusal-magic, layout_refusal-version, layout_refusal-layout, layout_refusal-length, layout_refusal-none}
 use Rattle.array_file.proofs.header.read_layout.Goals as goal
@@ -27,14 +28,14 @@ returns-in-Err-clause-exactly c =
     let one = ap (λ (ns : List ℕ). slice_index ns 0) (sym c.numbers-numbers.ensures) ∙ c.if-version-ne-VERSION.false in
     let stored = layout_in-numbers header c.numbers-numbers.result c.numbers-numbers.ensures in
     layout_refusal-layout header c.args.size c.in-Err.refusal (omega arith) (sym c.starts_with.ensures.value ∙ c.if-not-starts_with.false) one
-    (ap (λ (l : LayoutParts). first_broken (layout_rules l)) (sym stored) ∙ c.in-Err.ensures)
+    (ap (λ (l : LayoutNumbers). first_broken (layout_rules l)) (sym stored) ∙ c.in-Err.ensures)
 
 pub returns-then-size-stated-clause-exactly : goal.returns-then-size-stated-clause-exactly
 returns-then-size-stated-clause-exactly c =
     let header = c.args.bytes.now in
     let one = ap (λ (ns : List ℕ). slice_index ns 0) (sym c.numbers-numbers.ensures) ∙ c.if-version-ne-VERSION.false in
     let stored = layout_in-numbers header c.numbers-numbers.result c.numbers-numbers.ensures in
-    let kept = ap (λ (l : LayoutParts). first_broken (layout_rules l)) (sym stored) ∙ c.in-Ok.ensures.0 in
+    let kept = ap (λ (l : LayoutNumbers). first_broken (layout_rules l)) (sym stored) ∙ c.in-Ok.ensures.0 in
     let stated = c.file_size-stated.ensures ∙ ap file_size (c.in-Ok.ensures.1 ∙ stored) in
     layout_refusal-length header c.args.size (omega arith) (sym c.starts_with.ensures.value ∙ c.if-not-starts_with.false) one kept
     (λ whole. c.if-size-stated.true (whole ∙ sym stated))
@@ -45,7 +46,7 @@ returns-clause-exactly c =
     let header = c.args.bytes.now in
     let one = ap (λ (ns : List ℕ). slice_index ns 0) (sym c.numbers-numbers.ensures) ∙ c.if-version-ne-VERSION.false in
     let stored = layout_in-numbers header c.numbers-numbers.result c.numbers-numbers.ensures in
-    let kept = ap (λ (l : LayoutParts). first_broken (layout_rules l)) (sym stored) ∙ c.in-Ok.ensures.0 in
+    let kept = ap (λ (l : LayoutNumbers). first_broken (layout_rules l)) (sym stored) ∙ c.in-Ok.ensures.0 in
     let is_layout = c.in-Ok.ensures.1 ∙ stored in
     let whole = c.if-size-stated.false ∙ c.file_size-stated.ensures ∙ ap file_size is_layout in
     (layout_refusal-none header c.args.size (omega arith) (sym c.starts_with.ensures.value ∙ c.if-not-starts_with.false) one kept whole, is_layout)

@@ -2,7 +2,7 @@ use Rattle.std.proofs.Common.{rules, ◌≡◌, ◌+◌, ◌*◌, ◌-◌, ◌++
 use mir.Syntax.{w32}
 use borrow.Rule.Slice.PartMut.{mid_of}
 use Rattle.byteorder.specs.Endian.{little_bytes}
-use Rattle.grid_cells.specs.declared.cell.Cell.{Cell}
+use Rattle.cells.specs.declared.cell.Cell.{Cell}
 use Rattle.array_file.proofs.Writings.{bytes_put_none, bytes_put}
 use Rattle.array_file.proofs.writing.put_bytes.Goals as goal
 

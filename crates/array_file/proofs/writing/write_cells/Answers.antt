@@ -1,8 +1,8 @@
 use Rattle.std.proofs.Common.{rules, ◌+◌, ◌-◌, sym, ap, ◌∙◌, arith}
 use Rattle.std.proofs.lemmas.Result.{MatchResult-from_err}
-use Rattle.source_io.specs.Written.{appended}
-use Rattle.source_io.proofs.Writing.{appended-nil}
-use Rattle.array_file.proofs.Writings.{bytes_of_cells-nil, cells_more, cells_front}
+use Rattle.lists.specs.Appending.{appended}
+use Rattle.lists.proofs.Appending.{appended-nil}
+use Rattle.array_file.proofs.Writings.{bytes_of_cells-nil, cells_more, cells_prefix}
 use Rattle.array_file.proofs.writing.write_cells.Goals as goal
 
 pub loop-done-init : goal.loop-done-init
@@ -15,7 +15,7 @@ returns-in_err-write_piece-clause-written g c =
     let written = g.K.Sink.written in
     let done = c.loop-done.done in
     MatchResult-from_err c.from_residual.result _ _ c.from_residual.ensures.0
-    (λ _. cells_front (written c.args.sink.now) (written c.loop-done.sink) (written c.write_piece.new.sink) c.args.cells.now done (done + c.min-n.result - done)
+    (λ _. cells_prefix (written c.args.sink.now) (written c.loop-done.sink) (written c.write_piece.new.sink) c.args.cells.now done (done + c.min-n.result - done)
     c.loop-done.invariant.written c.in_err-write_piece.ensures.written)
 
 pub loop-done-preserved : goal.loop-done-preserved

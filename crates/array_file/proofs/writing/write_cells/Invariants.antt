@@ -1,5 +1,5 @@
 use Rattle.std.proofs.Common.{◌≡◌, ◌-◌, ◌≤◌, length, take}
-use Rattle.source_io.specs.Written.{appended}
+use Rattle.lists.specs.Appending.{appended}
 use Rattle.array_file.specs.Written.{bytes_of_cells}
 use Rattle.array_file.proofs.writing.write_cells.Given as goal
 

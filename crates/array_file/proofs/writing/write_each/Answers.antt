@@ -1,9 +1,9 @@
 use Rattle.std.proofs.Common.{rules, ◌∙◌, sym, ap, arith}
 use Rattle.std.proofs.lemmas.Result.{MatchResult-from_err}
-use Rattle.source_io.specs.Written.{appended}
-use Rattle.source_io.proofs.Writing.{appended-nil}
-use Rattle.grid_cells.specs.Chunks.{chunk_count}
-use Rattle.array_file.proofs.Writings.{bytes_of_chunks-nil, chunks_more, chunks_all, chunks_front}
+use Rattle.lists.specs.Appending.{appended}
+use Rattle.lists.proofs.Appending.{appended-nil}
+use Rattle.layouts.specs.Chunks.{chunk_count}
+use Rattle.array_file.proofs.Writings.{bytes_of_chunks-nil, chunks_more, chunks_all, chunks_prefix}
 use Rattle.array_file.proofs.writing.write_each.Goals as goal
 
 pub loop-n-init : goal.loop-n-init
@@ -19,7 +19,7 @@ pub returns-in_err-write_cells-clause-written : goal.returns-in_err-write_cells-
 returns-in_err-write_cells-clause-written g c =
     let written = g.K.Sink.written in
     MatchResult-from_err c.from_residual.result _ _ c.from_residual.ensures.0
-    (λ _. chunks_front (written c.args.sink.now) (written c.loop-n.sink) (written c.write_cells.new.sink) c.args.layout.now c.args.cells.now c.take_chunk.new.chunk c.loop-n.n _
+    (λ _. chunks_prefix (written c.args.sink.now) (written c.loop-n.sink) (written c.write_cells.new.sink) c.args.layout.now c.args.cells.now c.take_chunk.new.chunk c.loop-n.n _
     c.take_chunk.ensures.taken (search rules) c.loop-n.invariant.written c.in_err-write_cells.ensures.written)
 
 pub loop-n-preserved : goal.loop-n-preserved

@@ -1,6 +1,6 @@
 use Rattle.std.proofs.Common.{◌≡◌, ◌≤◌, length}
-use Rattle.source_io.specs.Written.{appended}
-use Rattle.grid_cells.specs.Chunks.{chunk_cells}
+use Rattle.lists.specs.Appending.{appended}
+use Rattle.layouts.specs.Chunks.{chunk_cells}
 use Rattle.array_file.specs.Written.{bytes_of_chunks}
 use Rattle.array_file.proofs.writing.write_each.Given as goal
 

@@ -1,5 +1,5 @@
 use Rattle.std.proofs.Common.{◌≡◌, subst}
-use Rattle.grid_cells.specs.Placing.{PlacesChunk}
+use Rattle.chunk_copies.specs.Placing.{PlacesChunk}
 use Rattle.chunk_store.proofs.Placed.{one_more_placed}
 use Rattle.chunk_store.proofs.array.add_chunk.Goals as goal
 

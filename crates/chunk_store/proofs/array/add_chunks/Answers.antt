@@ -1,50 +1,29 @@
 use Rattle.std.proofs.Common.{rules, ◌≡◌, ◌+◌, ◌<◌, subst, arith}
 use Rattle.std.proofs.lemmas.Grind.{common_steps}
-use Rattle.grid_cells.specs.Chunks.{chunk_count}
-use Rattle.array_file.specs.Stored.{chunk_start}
+use Rattle.layouts.specs.Chunks.{chunk_count}
 use Rattle.chunk_store.specs.Loaded.{HoldsFirstChunks}
-use Rattle.chunk_store.specs.Pieces.{AsksPieces}
-use Rattle.chunk_store.proofs.Behind.{asks_none, asks_behind, asks_wider}
-use Rattle.chunk_store.proofs.Placed.{none_placed, starts_behind_header, next_starts, ends_within, all_placed}
+use Rattle.chunk_store.proofs.Loops.{none_read, one_more_read, stopped_within, all_read}
+use Rattle.chunk_store.proofs.Placed.{none_placed, all_placed}
 use Rattle.chunk_store.proofs.array.add_chunks.Goals as goal
 
 pub loop-n-init : goal.loop-n-init
-loop-n-init g c =
-    record {
-      within = omega arith;
-      cells = none_placed _ _ _ c.requires.cells;
-      frame = c.requires.frame;
-      faults = omega arith;
-      asked = asks_none _ _ _;
-      bytes = cc;
-      size = cc;
-      name = cc;
-    }
+loop-n-init g c = record { within = omega arith; cells = none_placed _ _ _ c.requires.cells; read = none_read _ _ _ c.requires.frame }
 
 pub returns-in_err-add_chunk-clause-asked : goal.returns-in_err-add_chunk-clause-asked
 returns-in_err-add_chunk-clause-asked g c =
-    let layout = c.args.layout.now in
-    let n = c.loop-n.n in
-    let below : n < chunk_count layout = search (rules, common_steps) in
-    asks_wider _ _ _ _ _ _ (omega arith) (ends_within layout n below)
-    (asks_behind _ _ _ _ _ _ (starts_behind_header layout n) (omega arith) c.loop-n.invariant.asked c.add_chunk.ensures.asked)
+    let below : c.loop-n.n < chunk_count c.args.layout.now = search (rules, common_steps) in
+    stopped_within c.args.layout.now c.loop-n.n _ _ _ (g.S.ByteSource.asked c.add_chunk.new.src) below c.loop-n.invariant.read c.add_chunk.ensures.asked
 
 pub loop-n-preserved : goal.loop-n-preserved
 loop-n-preserved g c =
-    let s = g.S.ByteSource in
     let before = c.loop-n.invariant in
     let layout = c.args.layout.now in
     let n = c.loop-n.n in
-    let asked = asks_behind _ _ _ _ _ _ (starts_behind_header layout n) (omega arith) before.asked c.add_chunk.ensures.asked in
+    let one = c.add_chunk.ensures in
     record {
       within = search (rules, common_steps);
-      cells = subst (λ told. HoldsFirstChunks told layout (n + 1) c.add_chunk.new.cells) before.bytes c.in_ok-add_chunk.ensures.cells;
-      frame = c.add_chunk.ensures.frame;
-      faults = omega (arith, before.faults, c.add_chunk.ensures.faults);
-      asked = subst (AsksPieces (s.asked c.args.src.now) (s.asked c.add_chunk.new.src) 96) (next_starts layout n) asked;
-      bytes = cc;
-      size = cc;
-      name = cc;
+      cells = subst (λ told. HoldsFirstChunks told layout (n + 1) c.add_chunk.new.cells) before.read.bytes c.in_ok-add_chunk.ensures.cells;
+      read = one_more_read layout n _ _ _ _ _ before.read one.frame one.faults one.asked one.same_bytes one.same_len one.same_name;
     }
 
 pub returns-clause-cells : goal.returns-clause-cells
@@ -57,4 +36,4 @@ returns-clause-cells g c =
 pub returns-clause-asked : goal.returns-clause-asked
 returns-clause-asked g c =
     let all : c.loop-n.n ≡ chunk_count c.args.layout.now = search (rules, common_steps) in
-    subst (λ n. AsksPieces (g.S.ByteSource.asked c.args.src.now) (g.S.ByteSource.asked c.loop-n.src) 96 (chunk_start c.args.layout.now n)) all c.loop-n.invariant.asked
+    all_read c.args.layout.now c.loop-n.n _ _ _ all c.loop-n.invariant.read

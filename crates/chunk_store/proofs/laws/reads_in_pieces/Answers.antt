@@ -1,4 +1,4 @@
-use Rattle.chunk_store.proofs.Behind.{asks_wider, asks_none, asks_of_pieces}
+use Rattle.chunk_store.proofs.Pieces.{asks_wider, asks_none, asks_of_pieces}
 use Rattle.chunk_store.proofs.laws.reads_in_pieces.Goals as goal
 
 pub returns : goal.returns

@@ -1,6 +1,6 @@
 use Rattle.std.proofs.Common.{◌+◌, ◌*◌, pos, arith}
 use Rattle.std.proofs.lemmas.List.FromFn.{fill_by_all}
-use Rattle.grid_cells.specs.declared.cell.Cell.{Cell}
+use Rattle.cells.specs.declared.cell.Cell.{Cell}
 use Rattle.array_file.specs.Stored.{cell_at}
 use Rattle.chunk_store.specs.Loaded.{cells_from}
 use Rattle.chunk_store.proofs.loading.put_cells.Goals as goal

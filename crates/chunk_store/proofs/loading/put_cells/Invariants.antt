@@ -1,5 +1,5 @@
 use Rattle.std.proofs.Common.{◌≡◌, ℕ, ◌+◌, ◌*◌, ◌<◌, get_or, length}
-use Rattle.grid_cells.specs.declared.cell.Cell.{Cell}
+use Rattle.cells.specs.declared.cell.Cell.{Cell}
 use Rattle.array_file.specs.Stored.{cell_at}
 use Rattle.chunk_store.proofs.loading.put_cells.Given as goal
 

@@ -1,5 +1,5 @@
 use Rattle.std.proofs.Common.{length, length-take, arith, ℕ}
-use Rattle.chunk_store.proofs.Behind.{asks_piece, asks_wider}
+use Rattle.chunk_store.proofs.Pieces.{asks_piece, asks_wider}
 use Rattle.chunk_store.proofs.Held.{holds_piece}
 use Rattle.chunk_store.proofs.loading.read_piece.Goals as goal
 

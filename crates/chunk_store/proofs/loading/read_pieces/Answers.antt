@@ -1,9 +1,9 @@
 use Rattle.std.proofs.Common.{◌≡◌, ◌+◌, ◌*◌, ◌-◌, length, take, drop, length-take, length-drop, arith, rules, subst}
 use Rattle.std.proofs.lemmas.Grind.{common_steps}
-use Rattle.grid_cells.specs.declared.cell.Cell.{Cell}
+use Rattle.cells.specs.declared.cell.Cell.{Cell}
 use Rattle.chunk_store.specs.Loaded.{HoldsFrom}
 use Rattle.chunk_store.specs.Pieces.{AsksPieces}
-use Rattle.chunk_store.proofs.Behind.{asks_none, asks_behind, asks_wider}
+use Rattle.chunk_store.proofs.Pieces.{asks_none, asks_after, asks_wider}
 use Rattle.chunk_store.proofs.Held.{holds_none, holds_more}
 use Rattle.chunk_store.proofs.loading.read_pieces.Goals as goal
 
@@ -22,7 +22,7 @@ loop-done-init g c =
 pub returns-in_err-read_piece-clause-asked : goal.returns-in_err-read_piece-clause-asked
 returns-in_err-read_piece-clause-asked g c =
     asks_wider _ _ _ _ _ _ (omega arith) (omega (arith, length-take {A = Cell}, length-drop {A = Cell}))
-    (asks_behind _ _ _ _ _ _ (omega arith) (omega arith) c.loop-done.invariant.asked c.read_piece.ensures.asked)
+    (asks_after _ _ _ _ _ _ (omega arith) (omega arith) c.loop-done.invariant.asked c.read_piece.ensures.asked)
 
 pub loop-done-preserved : goal.loop-done-preserved
 loop-done-preserved g c =
@@ -34,7 +34,7 @@ loop-done-preserved g c =
     let at = c.args.at in
     let long : length c.read_piece.new.cells ≡ m = omega (arith, c.read_piece.auto.cells, c.min-n.ensures, length-take {A = Cell}, length-drop {A = Cell}) in
     let piece = subst (λ told. HoldsFrom told (at + 4 * n) c.read_piece.new.cells) before.bytes c.in_ok-read_piece.ensures.cells in
-    let asked = asks_behind _ _ _ _ _ _ (omega arith) (omega arith) before.asked c.read_piece.ensures.asked in
+    let asked = asks_after _ _ _ _ _ _ (omega arith) (omega arith) before.asked c.read_piece.ensures.asked in
     let end : at + 4 * n + 4 * length (take (n + m - n) (drop n cells)) ≡ at + 4 * (n + m) = omega (arith, c.min-n.ensures, length-take {A = Cell}, length-drop {A = Cell}) in
     record {
       within = search (rules, common_steps);

@@ -18,4 +18,4 @@ returns-clause-all g c =
     let same : c.cells.result.now ≡ c.load.new.into.cells = c.cells.ensures in
     one_more_summed told layout c.args.n c.cells.result.now c.args.all c.chunk_record-one.result c.merge.result c.requires.rules
     (subst (HoldsChunk told layout c.args.n) (sym same) c.in_ok-load.ensures.cells) c.requires.all
-    c.chunk_record-one.ensures.record c.chunk_record-one.ensures.few c.chunk_record-one.ensures.each c.merge.ensures.record
+    c.chunk_record-one.ensures.record c.chunk_record-one.ensures.few c.chunk_record-one.ensures.each (record { meant = c.merge.ensures.meant; count = c.merge.ensures.count; each = c.merge.ensures.each })

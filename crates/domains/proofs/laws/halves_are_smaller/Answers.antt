@@ -1,5 +1,5 @@
-use Rattle.domains.proofs.Before.{halves_boxes, halves_counts}
-use Rattle.domains.proofs.Falls.{measures_fall}
+use Rattle.domains.proofs.HalvesOrder.{halves_boxes, halves_counts}
+use Rattle.domains.proofs.Measures.{measures_fall}
 use Rattle.domains.proofs.laws.halves_are_smaller.Goals as goal
 
 pub returns-clause-boxes : goal.returns-clause-boxes

@@ -1,4 +1,4 @@
-use Rattle.domains.proofs.Before.{halves_order}
+use Rattle.domains.proofs.HalvesOrder.{halves_order}
 use Rattle.domains.proofs.laws.halves_in_order.Goals as goal
 
 pub returns : goal.returns

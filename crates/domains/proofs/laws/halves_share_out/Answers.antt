@@ -1,4 +1,4 @@
-use Rattle.domains.proofs.Shares.{halves_share}
+use Rattle.domains.proofs.Halves.{halves_share}
 use Rattle.domains.proofs.laws.halves_share_out.Goals as goal
 
 pub returns : goal.returns

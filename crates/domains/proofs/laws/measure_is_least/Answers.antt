@@ -1,4 +1,4 @@
-use Rattle.domains.proofs.Falls.{bits_enough, bits_least}
+use Rattle.domains.proofs.Measures.{bits_enough, bits_least}
 use Rattle.domains.proofs.laws.measure_is_least.Goals as goal
 
 pub returns-clause-enough : goal.returns-clause-enough

@@ -1,4 +1,4 @@
-use Rattle.domains.proofs.Counts.{length-points_of, length_in}
+use Rattle.domains.proofs.PointCounts.{length-points_of, length_in}
 use Rattle.domains.proofs.laws.points_are_counted.Goals as goal
 
 pub returns-clause-domains : goal.returns-clause-domains

@@ -1,4 +1,4 @@
-use Rattle.domains.proofs.Shares.{contains_in_box, contains_in_points}
+use Rattle.domains.proofs.Halves.{contains_in_box, contains_in_points}
 use Rattle.domains.proofs.laws.points_are_in_box.Goals as goal
 
 pub returns-clause-domains : goal.returns-clause-domains

@@ -1,5 +1,5 @@
 use Rattle.domains.specs.contracts.point.PointOrd.TheImpl.Laws.{total-law}
-use Rattle.domains.proofs.Order.{cmp-values, cmp-ties, eq-same}
+use Rattle.domains.proofs.PointOrder.{cmp-values, cmp-ties, eq-same}
 use Rattle.domains.proofs.laws.points_are_ordered.Goals as goal
 
 pub returns-clause-total : goal.returns-clause-total

@@ -1,4 +1,4 @@
-use Rattle.domains.proofs.Shares.{pairs_rise, pairs_rise_in}
+use Rattle.domains.proofs.Halves.{pairs_rise, pairs_rise_in}
 use Rattle.domains.proofs.laws.points_rise.Goals as goal
 
 pub returns-clause-domains : goal.returns-clause-domains

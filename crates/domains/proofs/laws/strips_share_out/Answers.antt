@@ -1,4 +1,4 @@
-use Rattle.domains.proofs.Parts.{strips_points, strips_order, strips_boxes}
+use Rattle.domains.proofs.StripPoints.{strips_points, strips_order, strips_boxes}
 use Rattle.domains.proofs.laws.strips_share_out.Goals as goal
 
 pub returns-clause-points : goal.returns-clause-points

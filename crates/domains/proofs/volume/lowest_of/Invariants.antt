@@ -1,5 +1,5 @@
 use Rattle.std.proofs.Common.{◌≡◌, take}
-use Rattle.domains.specs.Boxes.{lowest}
+use Rattle.domains.specs.VarBoxes.{lowest}
 use Rattle.domains.proofs.volume.lowest_of.Given as goal
 
 abbrev pub invariant-loop-d : goal.invariant-loop-d

@@ -2,7 +2,7 @@ use Rattle.std.proofs.Common.{arith, rules, ◌∙◌, ap, sym, subst, length, �
 use Rattle.std.proofs.lemmas.List.{length-set}
 use Rattle.std.proofs.lemmas.Int.{ints, to_z-of_z}
 use Rattle.domains.specs.Splits.{no_domain}
-use Rattle.domains.proofs.Next.{Reset, reset_none, reset_next, reset_more, reset_all}
+use Rattle.domains.proofs.NextPoint.{Reset, reset_none, reset_next, reset_more, reset_all}
 use Rattle.domains.proofs.walk.advance.Goals as goal
 
 pub loop-v-init : goal.loop-v-init

@@ -1,5 +1,5 @@
 use Rattle.std.proofs.Common.{◌≡◌, ◌≤◌, length}
-use Rattle.domains.proofs.Next.{Reset}
+use Rattle.domains.proofs.NextPoint.{Reset}
 use Rattle.domains.proofs.walk.advance.Given as goal
 
 abbrev pub invariant-loop-v : goal.invariant-loop-v

@@ -1,6 +1,6 @@
 use Rattle.std.proofs.Common.{◌≡◌, true, take}
 use Rattle.std.specs.List.{list_all}
-use Rattle.grid_cells.specs.Cells.{array_of}
+use Rattle.cells.specs.Cells.{array_of}
 use Rattle.query_model.specs.Constraint as constraint
 use Rattle.plain_enum.proofs.holds.holds_plain.Given as goal
 

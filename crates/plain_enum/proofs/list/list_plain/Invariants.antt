@@ -1,6 +1,6 @@
 use Rattle.std.proofs.Common.{◌≡◌, ◌++◌, All, length}
 use Rattle.std.specs.List.{filter}
-use Rattle.grid_cells.specs.Cells.{array_of}
+use Rattle.cells.specs.Cells.{array_of}
 use Rattle.query_model.specs.Constraint.{is_solution}
 use Rattle.query_model.specs.Answer.{answer}
 use Rattle.plain_enum.proofs.list.list_plain.Given as goal

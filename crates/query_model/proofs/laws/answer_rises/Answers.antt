@@ -1,5 +1,5 @@
-use Rattle.query_model.proofs.Solutions.{answer_rises_lem}
+use Rattle.query_model.proofs.Solutions.{pairs_rise_in_answer}
 use Rattle.query_model.proofs.laws.answer_rises.Goals as goal
 
 pub returns : goal.returns
-returns c = answer_rises_lem
+returns c = pairs_rise_in_answer c.points_rise.ensures.domains

@@ -4,8 +4,8 @@ use Rattle.std.proofs.lemmas.List.Quantifiers.{all_pairs_push}
 use Rattle.query_model.specs.Rules.{IsRegion}
 use Rattle.query_model.specs.declared.parts.Region.{Region}
 use Rattle.serde_json.specs.View.{view}
-use Rattle.query_text.specs.Walk.{walk_region, behind}
-use Rattle.query_text.proofs.Along.{along_more, behind_ok}
+use Rattle.query_text.specs.Walk.{walk_region, appending}
+use Rattle.query_text.proofs.ItemLoops.{fold_more, appending_ok}
 use Rattle.query_text.proofs.region.read_regions.Goals as goal
 
 pub loop-item-preserved : goal.loop-item-preserved
@@ -23,8 +23,8 @@ loop-item-preserved c =
     let new : All (λ s. differ s r) before = subst (All (λ s. differ s r)) c.as_slice.ensures.value c.in_ok-region.ensures.new in
     let keeps = IsRegion rank (length variables) in
     record {
-      walk = along_more (behind step) c.args.items.now i c.item-item.result before c.push.new.self.items _ c.loop-item-test.true c.item-item.is
-          (behind_ok step before (view c.item-item.result) r read ∙ ap Ok (sym pushed)) invariant.walk;
+      walk = fold_more (appending step) c.args.items.now i c.item-item.result before c.push.new.self.items _ c.loop-item-test.true c.item-item.is
+          (appending_ok step before (view c.item-item.result) r read ∙ ap Ok (sym pushed)) invariant.walk;
       count = ap length pushed ∙ length-append before (r ∷ []) ∙ ap (λ n. n + 1) invariant.count;
       rules = subst (All keeps) (sym pushed) (All-push keeps before r invariant.rules c.in_ok-region.ensures.rules);
       names = subst (AllPairs differ) (sym pushed) (all_pairs_push differ before r invariant.names new);

@@ -1,9 +1,10 @@
 use Rattle.std.proofs.Common.{◌++◌, subst, sym, ap, ◌∙◌}
 use Rattle.std.proofs.lemmas.Result.{MatchResult-from_err}
-use Rattle.source_io.specs.Written.{appended, AppendsFront, Writes}
-use Rattle.source_io.proofs.Writing.{front_after, front_within}
+use Rattle.lists.specs.Appending.{appended, AppendsPrefix}
+use Rattle.source_io.specs.Written.{Writes}
+use Rattle.lists.proofs.Appending.{prefix_after, prefix_within}
 use Rattle.search_run.specs.Info.{shape_lines, level_lines, cells_line}
-use Rattle.search_run.proofs.Telling.{writes_after, info_text-parts}
+use Rattle.search_run.proofs.InfoText.{writes_after, info_text-parts}
 use Rattle.search_run.proofs.info_text.print_info.Goals as goal
 
 pub returns-in_err-write_whole-clause-written : goal.returns-in_err-write_whole-clause-written
@@ -12,8 +13,8 @@ returns-in_err-write_whole-clause-written g c =
     let layout = c.args.layout.now in
     let shape = c.as_bytes.ensures ∙ c.shape_lines.ensures in
     MatchResult-from_err c.from_residual.result _ _ c.from_residual.ensures.0
-    (λ _. subst (λ text. AppendsFront (written c.args.sink.now) text (written c.write_whole.new.sink)) (sym (info_text-parts layout c.args.cells)) (front_within (written c.args.sink.now) (written c.write_whole.new.sink) (shape_lines layout) (level_lines layout ++ cells_line layout c.args.cells)
-    (subst (λ text. AppendsFront (written c.args.sink.now) text (written c.write_whole.new.sink)) shape c.in_err-write_whole.ensures.written)))
+    (λ _. subst (λ text. AppendsPrefix (written c.args.sink.now) text (written c.write_whole.new.sink)) (sym (info_text-parts layout c.args.cells)) (prefix_within (written c.args.sink.now) (written c.write_whole.new.sink) (shape_lines layout) (level_lines layout ++ cells_line layout c.args.cells)
+    (subst (λ text. AppendsPrefix (written c.args.sink.now) text (written c.write_whole.new.sink)) shape c.in_err-write_whole.ensures.written)))
 
 pub returns-in_err-print_levels-clause-written : goal.returns-in_err-print_levels-clause-written
 returns-in_err-print_levels-clause-written g c =
@@ -21,9 +22,9 @@ returns-in_err-print_levels-clause-written g c =
     let layout = c.args.layout.now in
     let shape = c.as_bytes.ensures ∙ c.shape_lines.ensures in
     MatchResult-from_err c.from_residual-in_err-print_levels.result _ _ c.from_residual-in_err-print_levels.ensures.0
-    (λ _. subst (λ text. AppendsFront (written c.args.sink.now) text (written c.print_levels.new.sink)) (sym (info_text-parts layout c.args.cells)) (front_after (written c.args.sink.now) (written c.write_whole.new.sink) (written c.print_levels.new.sink) (shape_lines layout) (level_lines layout ++ cells_line layout c.args.cells)
+    (λ _. subst (λ text. AppendsPrefix (written c.args.sink.now) text (written c.print_levels.new.sink)) (sym (info_text-parts layout c.args.cells)) (prefix_after (written c.args.sink.now) (written c.write_whole.new.sink) (written c.print_levels.new.sink) (shape_lines layout) (level_lines layout ++ cells_line layout c.args.cells)
     (c.in_ok-write_whole.ensures.written ∙ ap (appended (written c.args.sink.now)) shape)
-    (front_within (written c.write_whole.new.sink) (written c.print_levels.new.sink) (level_lines layout) (cells_line layout c.args.cells) c.in_err-print_levels.ensures.written)))
+    (prefix_within (written c.write_whole.new.sink) (written c.print_levels.new.sink) (level_lines layout) (cells_line layout c.args.cells) c.in_err-print_levels.ensures.written)))
 
 pub returns-clause-written : goal.returns-clause-written
 returns-clause-written g c =

@@ -1,9 +1,9 @@
 use Rattle.std.proofs.Common.{rules, subst, ap, ◌∙◌, arith}
 use Rattle.std.proofs.lemmas.Grind.{common_steps}
 use Rattle.std.proofs.lemmas.Result.{MatchResult-from_err}
-use Rattle.source_io.specs.Written.{appended, AppendsFront}
+use Rattle.lists.specs.Appending.{appended, AppendsPrefix}
 use Rattle.search_run.specs.Info.{level_line}
-use Rattle.search_run.proofs.Telling.{pieces_next, pieces_cut}
+use Rattle.search_run.proofs.InfoText.{pieces_next, pieces_cut}
 use Rattle.search_run.proofs.info_text.print_levels.Goals as goal
 
 pub loop-level-preserved : goal.loop-level-preserved
@@ -24,4 +24,4 @@ returns-in_err-write_whole-clause-written g c =
     MatchResult-from_err c.from_residual.result _ _ c.from_residual.ensures.0
     (λ _. pieces_cut (level_line c.args.layout.now) (written c.args.sink.now) (written c.loop-level.sink) (written c.write_whole.new.sink) c.loop-level.level c.args.layout.now.levels
     (search (rules, common_steps)) c.loop-level.invariant.written
-    (subst (λ l. AppendsFront (written c.loop-level.sink) l (written c.write_whole.new.sink)) line c.in_err-write_whole.ensures.written))
+    (subst (λ l. AppendsPrefix (written c.loop-level.sink) l (written c.write_whole.new.sink)) line c.in_err-write_whole.ensures.written))

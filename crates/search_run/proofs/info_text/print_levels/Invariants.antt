@@ -1,6 +1,6 @@
 use Rattle.std.proofs.Common.{◌≡◌, ◌≤◌, flat_map}
 use Rattle.std.specs.List.{range_with_len}
-use Rattle.source_io.specs.Written.{appended}
+use Rattle.lists.specs.Appending.{appended}
 use Rattle.search_run.specs.Info.{level_line}
 use Rattle.search_run.proofs.info_text.print_levels.Given as goal
 

@@ -1,7 +1,7 @@
 use Rattle.std.proofs.Common.{rules, ◌≡◌, ◌++◌, ◌∙◌, codes, to_z, of_z}
 use Rattle.std.specs.Fmt.{signed_decimal}
 use mir.Syntax.{w32, w64}
-use Rattle.search_run.proofs.Telling.{three_named}
+use Rattle.search_run.proofs.InfoText.{three_named}
 use Rattle.search_run.proofs.info_text.push_extremes.Goals as goal
 
 pub returns-clause-text : goal.returns-clause-text

@@ -1,6 +1,6 @@
 use Rattle.std.proofs.Common.{rules}
 use Rattle.source_io.specs.Files.{file_of}
-use Rattle.search_run.proofs.Endings.{prints_nothing, ends_unloaded, prints_whole, prints_front}
+use Rattle.search_run.proofs.Endings.{prints_nothing, ends_unloaded, prints_whole, prints_prefix}
 use Rattle.search_run.proofs.plain.list_solutions.Goals as goal
 
 pub returns-in-Err-clause-verdict : goal.returns-in-Err-clause-verdict
@@ -11,10 +11,10 @@ pub returns-in-Err-clause-output : goal.returns-in-Err-clause-output
 returns-in-Err-clause-output g c =
     prints_nothing (file_of (g.F.Shelf.holds c.args.shelf.now) c.args.array.now) (file_of (g.F.Shelf.holds c.args.shelf.now) c.args.query.now) _ (g.O.Sink.written c.args.out.now) c.in-Err.ending c.in-Err.ensures.problem
 
-pub returns-in-Ok-print-clause-output : goal.returns-in-Ok-print-clause-output
-returns-in-Ok-print-clause-output g c =
+pub returns-in-Ok-print_solutions-clause-output : goal.returns-in-Ok-print_solutions-clause-output
+returns-in-Ok-print_solutions-clause-output g c =
     prints_whole (g.F.Shelf.holds c.args.shelf.now) c.args.array.now c.args.query.now c.in-Ok.problem c.as_slice.result.now c.in-Ok-list_plain.points.items _ _ c.in-Ok.ensures.problem c.as_slice.ensures.value c.in-Ok-list_plain.ensures.answer (search rules)
 
 pub returns-clause-output : goal.returns-clause-output
 returns-clause-output g c =
-    prints_front (g.F.Shelf.holds c.args.shelf.now) c.args.array.now c.args.query.now c.in-Ok.problem c.as_slice.result.now c.in-Ok-list_plain.points.items _ _ c.in-Ok.ensures.problem c.as_slice.ensures.value c.in-Ok-list_plain.ensures.answer (search rules)
+    prints_prefix (g.F.Shelf.holds c.args.shelf.now) c.args.array.now c.args.query.now c.in-Ok.problem c.as_slice.result.now c.in-Ok-list_plain.points.items _ _ c.in-Ok.ensures.problem c.as_slice.ensures.value c.in-Ok-list_plain.ensures.answer (search rules)

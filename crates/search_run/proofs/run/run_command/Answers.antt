@@ -1,5 +1,5 @@
 use Rattle.std.proofs.Common.{sym, subst}
-use Rattle.command_words.specs.Commands.{named}
+use Rattle.command_words.specs.Commands.{command_of}
 use Rattle.search_run.specs.Verdict.{told_command_output}
 use Rattle.search_run.specs.Ends.{Prints}
 use Rattle.search_run.proofs.Packing.{prints_no_text}
@@ -9,4 +9,4 @@ pub returns-in-Pack-clause-output : goal.returns-in-Pack-clause-output
 returns-in-Pack-clause-output g c =
     let held = g.F.Shelf.holds c.args.shelf.now in
     let written = g.O.Sink.written c.args.out.now in
-    subst (λ command. Prints c.pack.result (told_command_output held (named command)) written written) (sym c.in-Pack.is) (prints_no_text held c.pack.result written)
+    subst (λ command. Prints c.pack.result (told_command_output held (command_of command)) written written) (sym c.in-Pack.is) (prints_no_text held c.pack.result written)

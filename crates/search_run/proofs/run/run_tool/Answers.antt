@@ -1,6 +1,6 @@
 use Rattle.source_io.specs.Told.{Rose}
 use Rattle.search_run.specs.Verdict.{told_verdict, told_output}
-use Rattle.search_run.proofs.Statuses.{status_is, whole_is, front_is, silent_is, quiet_is}
+use Rattle.search_run.proofs.Statuses.{status_is, whole_is, prefix_is, silent_is, quiet_is}
 use Rattle.search_run.proofs.run.run_tool.Goals as goal
 
 pub returns-clause-status : goal.returns-clause-status
@@ -14,9 +14,9 @@ returns-clause-whole g c =
 pub returns-clause-silent : goal.returns-clause-silent
 returns-clause-silent g c = silent_is _ c.run-ending.result c.report.result _ _ c.report.ensures.status c.run-ending.ensures.output
 
-pub returns-clause-front : goal.returns-clause-front
-returns-clause-front g c =
-    front_is (told_output (g.F.Shelf.holds c.args.shelf.now) c.args.words.now) c.run-ending.result _ _ c.run-ending.ensures.output
+pub returns-clause-prefix : goal.returns-clause-prefix
+returns-clause-prefix g c =
+    prefix_is (told_output (g.F.Shelf.holds c.args.shelf.now) c.args.words.now) c.run-ending.result _ _ c.run-ending.ensures.output
 
 pub returns-clause-said : goal.returns-clause-said
 returns-clause-said g c = (c.run-ending.result, c.report.ensures.status, c.run-ending.ensures.verdict, c.report.ensures.said)

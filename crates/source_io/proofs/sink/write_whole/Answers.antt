@@ -1,6 +1,6 @@
 use Rattle.std.proofs.Common.{arith, ◌-◌, length, length-drop, length-take, ℕ}
 use Rattle.std.proofs.lemmas.Result.{MatchResult-from_err}
-use Rattle.source_io.proofs.Writing.{appended_more, front_of_take}
+use Rattle.lists.proofs.Appending.{appended_more, prefix_of_take}
 use Rattle.source_io.proofs.sink.write_whole.Goals as goal
 
 pub loop-done-preserved : goal.loop-done-preserved
@@ -21,5 +21,5 @@ pub returns-in_err-done-clause-written : goal.returns-in_err-done-clause-written
 returns-in_err-done-clause-written g c =
     let written = g.K.Sink.written in
     MatchResult-from_err c.from_residual.result _ _ c.from_residual.ensures.0
-    (λ _. front_of_take (written c.args.sink.now) (written c.loop-done.sink) (written c.write.new.self) c.args.piece.now c.loop-done.done
+    (λ _. prefix_of_take (written c.args.sink.now) (written c.loop-done.sink) (written c.write.new.self) c.args.piece.now c.loop-done.done
     c.loop-done.invariant.written c.in_err-done.ensures.unchanged)

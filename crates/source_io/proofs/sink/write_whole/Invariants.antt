@@ -1,5 +1,5 @@
 use Rattle.std.proofs.Common.{◌≡◌, ◌≤◌, ◌-◌, length, take}
-use Rattle.source_io.specs.Written.{appended}
+use Rattle.lists.specs.Appending.{appended}
 use Rattle.source_io.proofs.sink.write_whole.Given as goal
 
 abbrev pub invariant-loop-done : goal.invariant-loop-done

@@ -14,14 +14,14 @@ loop-done-preserved g c =
     let n = c.loop-done.done in
     let m = c.in_ok-done.field-0 in
     let k = length into - n in
-    let at = c.args.at in
-    let end = at + length c.args.into.now in
-    let filled = subst (λ told. Fills told (at + n) m (mid_of n k into) c.read_at.new.into) before.bytes h.bytes in
+    let offset = c.args.offset in
+    let end = offset + length c.args.into.now in
+    let filled = subst (λ told. Fills told (offset + n) m (mid_of n k into) c.read_at.new.into) before.bytes h.bytes in
     record {
       within = search (rules, common_steps);
-      held = holds_more _ at n m k into c.read_at.new.into before.within (omega (arith, c.read_at.auto.into, length-take {A = ℕ}, length-drop {A = ℕ})) before.held filled;
+      held = holds_more _ offset n m k into c.read_at.new.into before.within (omega (arith, c.read_at.auto.into, length-take {A = ℕ}, length-drop {A = ℕ})) before.held filled;
       faults = omega arith;
-      asked = asks_more _ _ _ at _ _ end _ _ before.asked h.asked (omega arith) (omega arith) (omega arith) (omega (arith, length-take {A = ℕ}, length-drop {A = ℕ})) (omega (arith, length-take {A = ℕ}, length-drop {A = ℕ}));
+      asked = asks_more _ _ _ offset _ _ end _ _ before.asked h.asked (omega arith) (omega arith) (omega arith) (omega (arith, length-take {A = ℕ}, length-drop {A = ℕ})) (omega (arith, length-take {A = ℕ}, length-drop {A = ℕ}));
       bytes = cc;
       size = cc;
       name = cc;
@@ -29,12 +29,12 @@ loop-done-preserved g c =
 
 pub returns-in_err-done-clause-asked : goal.returns-in_err-done-clause-asked
 returns-in_err-done-clause-asked g c =
-    let at = c.args.at in
-    let end = at + length c.args.into.now in
+    let offset = c.args.offset in
+    let end = offset + length c.args.into.now in
     let so_far = c.loop-done.invariant.asked in
     ⊎_elim
-    (λ one. asks _ _ at (end + 1) end (asks_more _ _ _ at _ (end + 1) end _ _ so_far one (omega arith) (omega arith) (omega arith) (omega (arith, length-take {A = ℕ}, length-drop {A = ℕ})) (omega (arith, length-take {A = ℕ}, length-drop {A = ℕ}))))
-    (λ same. asks _ _ at _ end (subst (λ new. AsksBelow (g.S.ByteSource.asked c.args.src.now) new at (at + c.loop-done.done) end) (sym same) so_far))
+    (λ one. asks _ _ offset (end + 1) end (asks_more _ _ _ offset _ (end + 1) end _ _ so_far one (omega arith) (omega arith) (omega arith) (omega (arith, length-take {A = ℕ}, length-drop {A = ℕ})) (omega (arith, length-take {A = ℕ}, length-drop {A = ℕ}))))
+    (λ same. asks _ _ offset _ end (subst (λ new. AsksBelow (g.S.ByteSource.asked c.args.src.now) new offset (offset + c.loop-done.done) end) (sym same) so_far))
     c.in_err-done.ensures.failed
 
 pub returns-clause-asked : goal.returns-clause-asked

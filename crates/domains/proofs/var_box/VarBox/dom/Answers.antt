@@ -1,7 +1,7 @@
 use Rattle.std.proofs.Common.{subst, sym}
 use Rattle.domains.specs.Splits.{no_domain}
-use Rattle.domains.specs.Boxes.{HaveValues}
-use Rattle.domains.proofs.Doms.{values_at}
+use Rattle.domains.specs.VarBoxes.{HaveValues}
+use Rattle.domains.proofs.NonemptyDomains.{values_at}
 use Rattle.domains.proofs.var_box.VarBox.dom.Goals as goal
 
 pub returns-then-v-doms-clause-some : goal.returns-then-v-doms-clause-some

@@ -1,4 +1,4 @@
-use Rattle.domains.proofs.Doms.{no_vars}
+use Rattle.domains.proofs.NonemptyDomains.{no_vars}
 use Rattle.domains.proofs.var_box.VarBox.is_empty.Goals as goal
 
 pub returns-clause-points : goal.returns-clause-points

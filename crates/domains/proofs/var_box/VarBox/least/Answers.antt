@@ -1,5 +1,5 @@
 use Rattle.std.proofs.Common.{arith, ap, sym, ◌∙◌, Some}
-use Rattle.domains.proofs.Doms.{first_point}
+use Rattle.domains.proofs.NonemptyDomains.{first_point}
 use Rattle.domains.proofs.var_box.VarBox.least.Goals as goal
 
 pub returns-clause-first : goal.returns-clause-first

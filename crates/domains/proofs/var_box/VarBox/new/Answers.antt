@@ -3,8 +3,8 @@ use Rattle.std.specs.List.{list_all}
 use Rattle.std.proofs.lemmas.List.{take_at}
 use Rattle.domains.specs.Values.{has_value}
 use Rattle.domains.specs.Splits.{no_domain}
-use Rattle.domains.specs.Boxes.{HaveValues, points_in}
-use Rattle.domains.proofs.Doms.{have_values, points_none}
+use Rattle.domains.specs.VarBoxes.{HaveValues, points_in}
+use Rattle.domains.proofs.NonemptyDomains.{have_values, points_none}
 use Rattle.domains.proofs.Padding.{padded_fresh}
 use Rattle.domains.proofs.var_box.VarBox.new.Goals as goal
 

@@ -1,8 +1,8 @@
 use Rattle.std.proofs.Common.{rules, ◌≡◌, subst, sym, true, false, length, MatchOption, ◌≢◌, ◌∷◌, []}
 use Rattle.std.specs.List.{list_all}
 use Rattle.domains.specs.Values.{has_one_value}
-use Rattle.domains.specs.Boxes.{points_in}
-use Rattle.domains.proofs.Counts.{one_point, several_points}
+use Rattle.domains.specs.VarBoxes.{points_in}
+use Rattle.domains.proofs.PointCounts.{one_point, several_points}
 use Rattle.domains.proofs.var_box.VarBox.point.Goals as goal
 
 pub returns-then-have_one_value : goal.returns-then-have_one_value

@@ -1,6 +1,6 @@
 use Rattle.std.proofs.Common.{◌∙◌, nat_lt}
-use Rattle.domains.specs.Boxes.{points_left}
-use Rattle.domains.proofs.Doms.{points_start}
+use Rattle.domains.specs.VarBoxes.{points_left}
+use Rattle.domains.proofs.NonemptyDomains.{points_start}
 use Rattle.domains.proofs.var_box.VarBox.points.Goals as goal
 
 pub returns : goal.returns

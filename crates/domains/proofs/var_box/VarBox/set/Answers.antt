@@ -3,8 +3,8 @@ use Rattle.std.proofs.Math.Seq.{take-set-lt}
 use Rattle.std.proofs.lemmas.Int.{ints}
 use Rattle.domains.specs.Splits.{no_domain}
 use Rattle.domains.specs.Values.{HasValue}
-use Rattle.domains.specs.Boxes.{HaveValues}
-use Rattle.domains.proofs.Doms.{values_set, true-has_value}
+use Rattle.domains.specs.VarBoxes.{HaveValues}
+use Rattle.domains.proofs.NonemptyDomains.{values_set, true-has_value}
 use Rattle.domains.proofs.Padding.{length_padded, padded_set}
 use Rattle.domains.proofs.var_box.VarBox.set.Goals as goal
 

@@ -1,7 +1,7 @@
 use Rattle.std.proofs.Common.{arith, rules, ◌∙◌, ap, sym, subst, length, ◌<◌, ◌^◌, ◌*◌}
 use Rattle.domains.specs.Splits.{no_domain}
-use Rattle.domains.specs.Boxes.{HaveValues, points_in}
-use Rattle.domains.proofs.Counts.{volume_step, volume_all}
+use Rattle.domains.specs.VarBoxes.{HaveValues, points_in}
+use Rattle.domains.proofs.PointCounts.{volume_step, volume_all}
 use Rattle.domains.proofs.var_box.VarBox.volume.Goals as goal
 
 pub overflow_mul-points : goal.overflow_mul-points

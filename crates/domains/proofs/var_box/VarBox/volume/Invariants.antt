@@ -1,5 +1,5 @@
 use Rattle.std.proofs.Common.{◌≡◌, take}
-use Rattle.domains.specs.Boxes.{size_product}
+use Rattle.domains.specs.VarBoxes.{size_product}
 use Rattle.domains.proofs.var_box.VarBox.volume.Given as goal
 
 abbrev pub invariant-loop-d : goal.invariant-loop-d

@@ -1,5 +1,5 @@
 use Rattle.std.proofs.Common.{◌≡◌, ◌*◌, ◌^◌, take, map, ◌+ℤ◌}
-use Rattle.grid_cells.specs.Numbers.{sum_of, IsWithin}
+use Rattle.lists.specs.Numbers.{sum_of, IsWithin}
 use Rattle.query_model.specs.Value.{term_value}
 use Rattle.query_model.proofs.parts.Expr.value.Given as goal
 

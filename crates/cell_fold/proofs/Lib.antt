@@ -1,0 +1,5 @@
+pub mod LaneRecords
+pub mod LaneSums
+pub mod Passes
+pub mod Regions
+pub mod Steps

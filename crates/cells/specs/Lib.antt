@@ -1,0 +1,4 @@
+pub mod Array
+pub mod Cells
+pub mod Records
+pub mod Rects

@@ -1,0 +1,33 @@
+-- Rectangles of cells, by their ends.
+-- Used by `layouts`, and in this crate.
+use Rattle.std.specs.Prelude.{◌≡◌, ℕ, ◌-◌, min, max, Bool, true, List, length, map, zip}
+use Rattle.lists.specs.Numbers.{product}
+use Rattle.grids.specs.Ends.{is_between_ends}
+use Rattle.cells.specs.declared.rect.Rect.{Rect}
+
+-- the cell with these coordinates lies in a rectangle
+abbrev pub rect_contains : Rect → List ℕ → Bool
+rect_contains r at = is_between_ends r.from r.to at
+
+-- it is a rectangle of so many dimensions
+abbrev pub HasDimensions : ℕ → Rect → Type 0
+HasDimensions d r = (length r.from ≡ d) × (length r.to ≡ d)
+
+-- how many cells a rectangle has
+abbrev pub area_of : Rect → ℕ
+area_of r = product (map (λ (f, t). t - f) (zip r.from r.to))
+
+-- where two rectangles meet
+abbrev pub meet_of : Rect → Rect → Rect
+meet_of r s = record {
+  from = map (λ (f, g). max f g) (zip r.from s.from);
+  to = map (λ (t, u). min t u) (zip r.to s.to);
+}
+
+-- the rectangle of all cells of these extents
+abbrev pub whole_of : List ℕ → Rect
+whole_of extents = record { from = map (λ _. 0) extents; to = extents }
+
+-- all cells of the one lie in the other
+abbrev pub LiesInside : Rect → Rect → Type 0
+LiesInside r s = (at : List ℕ) → rect_contains r at ≡ true → rect_contains s at ≡ true

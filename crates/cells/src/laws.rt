@@ -1,0 +1,59 @@
+//! What records, coordinates and rectangles are, in the words of the subject. Each law is the contract of a function
+//! that does nothing.
+//! Used by `chunk_store`.
+ghost use Rattle.std.specs.Prelude.{◌≡◌, ℕ, ℤ, List, ◌++◌, ◌<◌, ◌↔◌, true, ◌&&◌, length, filter, IsPermutation};
+ghost use Rattle.std.specs.Cmp.Lexicographic.{slice_cmp};
+ghost use Rattle.std.specs.List.{range_with_len};
+ghost use Rattle.std.specs.Ordering.{nat_cmp};
+ghost use Rattle.std.specs.declared.cmp.Ordering.TheVariants.{Less};
+ghost use Rattle.lists.specs.Numbers.{product, HaveSameItems};
+ghost use Rattle.grids.specs.Coordinates.{coordinates_of, index_of, in_bounds};
+ghost use Rattle.cells.specs.Records.{record_of, merged};
+ghost use Rattle.cells.specs.Rects.{rect_contains, area_of, meet_of, whole_of, HasDimensions};
+ghost use Rattle.cells.specs.declared.rect.Rect.{Rect};
+
+/// The record of the numbers of two lists is the merged one of their records.
+pub fn record_of_both_is_merged()
+    ensures { (xs ys : List ℤ) → record_of (xs ++ ys) ≡ merged (record_of xs) (record_of ys) }
+{}
+
+/// The order of the numbers does not matter for their record.
+pub fn record_of_is_free_of_order()
+    ensures { (xs ys : List ℤ) → IsPermutation xs ys → record_of xs ≡ record_of ys }
+{}
+
+/// Numbers that every weighing gives the same weight have one record.
+pub fn record_of_by_weighings()
+    ensures { (xs ys : List ℤ) → HaveSameItems xs ys → record_of xs ≡ record_of ys }
+{}
+
+/// Coordinates in bounds have an index of their own, below the number of cells.
+pub fn coordinates_have_indices()
+    ensures below { (extents at : List ℕ) → in_bounds extents at ≡ true → index_of extents at < product extents }
+    ensures back { (extents at : List ℕ) → in_bounds extents at ≡ true → coordinates_of extents (index_of extents at) ≡ at }
+{}
+
+/// Each index below the number of cells is that of coordinates in bounds.
+pub fn indices_have_coordinates()
+    ensures in_bounds { (extents : List ℕ) (k : ℕ) → k < product extents → in_bounds extents (coordinates_of extents k) ≡ true }
+    ensures back { (extents : List ℕ) (k : ℕ) → k < product extents → index_of extents (coordinates_of extents k) ≡ k }
+{}
+
+/// Indices are row-major: of two coordinates one has the smaller index exactly where it comes first in the order by the
+/// first dimension, then the next.
+pub fn indices_are_row_major()
+    ensures { (extents at other : List ℕ) → in_bounds extents at ≡ true → in_bounds extents other ≡ true →
+        (index_of extents at < index_of extents other) ↔ (slice_cmp nat_cmp at other ≡ Less) }
+{}
+
+/// A cell lies where two rectangles meet exactly where it lies in both.
+pub fn rectangles_meet()
+    ensures { (dimensions : ℕ) (r s : Rect) (at : List ℕ) → HasDimensions dimensions r → HasDimensions dimensions s →
+        rect_contains (meet_of r s) at ≡ (rect_contains r at && rect_contains s at) }
+{}
+
+/// The area of a rectangle, cut to an array, is how many cells of the array lie in it.
+pub fn area_counts_cells()
+    ensures { (extents : List ℕ) (r : Rect) → HasDimensions (length extents) r → area_of (meet_of r (whole_of extents))
+        ≡ length (filter (λ k. rect_contains r (coordinates_of extents k)) (range_with_len 0 (product extents))) }
+{}

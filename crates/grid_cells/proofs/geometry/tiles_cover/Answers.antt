@@ -1,5 +1,0 @@
-use Rattle.grid_cells.proofs.Tilings.{tile_of-below, tile_of-holds}
-use Rattle.grid_cells.proofs.geometry.tiles_cover.Goals as goal
-
-pub returns : goal.returns
-returns c = record { tile = tile_of-below; holds = tile_of-holds }

@@ -1,5 +1,0 @@
-use Rattle.grid_cells.proofs.Nesting.{tile_of-tile_from, tile_rect-inside, tile_rect-inside_one}
-use Rattle.grid_cells.proofs.geometry.tiles_nest.Goals as goal
-
-pub returns : goal.returns
-returns c = record { tile = tile_of-tile_from; inside = tile_rect-inside; alone = tile_rect-inside_one }

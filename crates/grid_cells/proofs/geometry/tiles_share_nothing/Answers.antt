@@ -1,5 +1,0 @@
-use Rattle.grid_cells.proofs.Tilings.{tile_rect-within, tile_of-tile_rect}
-use Rattle.grid_cells.proofs.geometry.tiles_share_nothing.Goals as goal
-
-pub returns : goal.returns
-returns c = record { cut = tile_rect-within; alone = tile_of-tile_rect }

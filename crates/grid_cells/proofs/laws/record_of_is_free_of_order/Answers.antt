@@ -1,5 +1,0 @@
-use Rattle.grid_cells.proofs.Orders.{record_of-permutation}
-use Rattle.grid_cells.proofs.laws.record_of_is_free_of_order.Goals as goal
-
-pub returns : goal.returns
-returns c = record_of-permutation

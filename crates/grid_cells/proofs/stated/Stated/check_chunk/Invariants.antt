@@ -1,7 +1,0 @@
-use Rattle.std.proofs.Common.{◌≡◌, ◌<◌, ℕ, true}
-use Rattle.grid_cells.specs.Rules.{chunk_rule}
-use Rattle.grid_cells.specs.Stated.{parts_of}
-use Rattle.grid_cells.proofs.stated.Stated.check_chunk.Given as goal
-
-abbrev pub invariant-loop-dim : goal.invariant-loop-dim
-invariant-loop-dim l = (d : ℕ) → d < l.dim → (chunk_rule (parts_of l.self) d).0 ≡ true

@@ -1,0 +1,47 @@
+-- Tiles: rectangles of one size, numbered row-major, that cover an array and are cut to it. Chunks are tiles, and so are the blocks of each level.
+-- Used by `layouts`, `chunk_copies` and `chunk_store`, and in this crate.
+use Rattle.std.specs.Prelude.{◌≡◌, ℕ, ◌+◌, ◌-◌, ◌*◌, ◌/◌, ◌%◌, ◌≤◌, min, List, map, zip}
+use Rattle.std.specs.List.{AllZip}
+use Rattle.lists.specs.Numbers.{product}
+use Rattle.grids.specs.Coordinates.{coordinates_of, index_of}
+
+-- how many pieces of this length cover an extent
+abbrev pub pieces_of : ℕ → ℕ → ℕ
+pieces_of extent length = (extent + (length - 1)) / length
+
+-- how many pieces of these lengths cover the extents, in each dimension
+abbrev pub grid_of : List ℕ → List ℕ → List ℕ
+grid_of extents lengths = map (λ (n, m). pieces_of n m) (zip extents lengths)
+
+-- as many lengths as extents, each 1 at least
+abbrev pub IsTiling : List ℕ → List ℕ → Type 0
+IsTiling extents lengths = AllZip (λ _ m. 1 ≤ m) extents lengths
+
+-- each longer length is a multiple of the shorter one
+abbrev pub AreMultiples : List ℕ → List ℕ → Type 0
+AreMultiples longer shorter = AllZip (λ m k. m % k ≡ 0) longer shorter
+
+-- how many tiles of these lengths cover these extents
+abbrev pub tile_count : List ℕ → List ℕ → ℕ
+tile_count extents lengths = product (grid_of extents lengths)
+
+-- the number of the tile in which a cell lies
+abbrev pub tile_of : List ℕ → List ℕ → List ℕ → ℕ
+tile_of extents lengths at = index_of (grid_of extents lengths) (map (λ (c, m). c / m) (zip at lengths))
+
+-- the index of the cell within its tile, as in a tile that is not cut
+abbrev pub index_in_tile : List ℕ → List ℕ → ℕ
+index_in_tile lengths at = index_of lengths (map (λ (c, m). c % m) (zip at lengths))
+
+-- where a tile stands in the grid
+abbrev pub tile_coordinates : List ℕ → List ℕ → ℕ → List ℕ
+tile_coordinates extents lengths t = coordinates_of (grid_of extents lengths) t
+
+-- its first coordinates
+abbrev pub tile_from : List ℕ → List ℕ → ℕ → List ℕ
+tile_from extents lengths t = map (λ (q, m). q * m) (zip (tile_coordinates extents lengths t) lengths)
+
+-- the coordinates past its last ones, cut to the extents
+abbrev pub tile_to : List ℕ → List ℕ → ℕ → List ℕ
+tile_to extents lengths t =
+    map (λ (n, b). min n b) (zip extents (map (λ (q, m). q * m + m) (zip (tile_coordinates extents lengths t) lengths)))

@@ -1,0 +1,86 @@
+//! What tiles, blocks and chunks are, in the words of the subject. Each law is the contract of a function that does
+//! nothing.
+//! No code calls them.
+ghost use Rattle.std.specs.Prelude.{◌≡◌, ◌<◌, ◌≤◌, ◌+◌, ℕ, List, length, true, All, None};
+ghost use Rattle.lists.specs.Numbers.{product};
+ghost use Rattle.lists.specs.Rules.{first_broken};
+ghost use Rattle.grids.specs.Coordinates.{in_bounds};
+ghost use Rattle.grids.specs.Tiles.{IsTiling, AreMultiples, tile_count, tile_of, tile_from, index_in_tile};
+ghost use Rattle.cells.specs.Rects.{rect_contains, LiesInside};
+ghost use Rattle.layouts.specs.Chunks.{tile_rect, chunk_count, chunk_rect, chunk_around, block_count, block_rect, block_above};
+ghost use Rattle.layouts.specs.Rules.{layout_rules, IsLayout};
+ghost use Rattle.layouts.specs.declared.numbers.LayoutNumbers.{LayoutNumbers};
+
+/// Three dimensions, four levels and every rule kept make a layout: what else `IsLayout` says follows.
+pub fn rules_make_a_layout()
+    ensures { (l : LayoutNumbers) → length l.extents ≡ 3 → length l.chunk ≡ 3 → length l.blocks ≡ 4 → All (λ b. length b ≡ 3) l.blocks →
+        first_broken (layout_rules l) ≡ None → IsLayout l }
+{}
+
+/// Tiles cover an array: each cell is in a tile.
+pub fn tiles_cover()
+    ensures tile { (extents lengths at : List ℕ) → IsTiling extents lengths → in_bounds extents at ≡ true →
+        tile_of extents lengths at < tile_count extents lengths }
+    ensures holds { (extents lengths at : List ℕ) → IsTiling extents lengths → in_bounds extents at ≡ true →
+        rect_contains (tile_rect extents lengths (tile_of extents lengths at)) at ≡ true }
+{}
+
+/// Tiles are cut to the array and share no cell: a cell of a tile is one of the array, and of that tile
+/// alone.
+pub fn tiles_share_nothing()
+    ensures cut { (extents lengths : List ℕ) (t : ℕ) (at : List ℕ) → IsTiling extents lengths → t < tile_count extents lengths →
+        rect_contains (tile_rect extents lengths t) at ≡ true → in_bounds extents at ≡ true }
+    ensures alone { (extents lengths : List ℕ) (t : ℕ) (at : List ℕ) → IsTiling extents lengths → t < tile_count extents lengths →
+        rect_contains (tile_rect extents lengths t) at ≡ true → tile_of extents lengths at ≡ t }
+{}
+
+/// Each tile has a cell, its first one.
+pub fn tiles_have_cells()
+    ensures { (extents lengths : List ℕ) (t : ℕ) → IsTiling extents lengths → t < tile_count extents lengths →
+        rect_contains (tile_rect extents lengths t) (tile_from extents lengths t) ≡ true }
+{}
+
+/// A tile has each of its cells once: at an index below the number of cells of a tile that is not cut, and at another
+/// index than its other cells.
+pub fn cells_in_tiles_are_apart()
+    ensures below { (extents lengths at : List ℕ) → IsTiling extents lengths → in_bounds extents at ≡ true →
+        index_in_tile lengths at < product lengths }
+    ensures once { (extents lengths at other : List ℕ) → IsTiling extents lengths → in_bounds extents at ≡ true → in_bounds extents other ≡ true →
+        tile_of extents lengths at ≡ tile_of extents lengths other → index_in_tile lengths at ≡ index_in_tile lengths other → at ≡ other }
+{}
+
+/// Tiles nest: where the longer lengths are multiples of the shorter ones, each shorter tile lies inside a
+/// longer one, that of its first cell, and no other longer tile has a cell of it.
+pub fn tiles_nest()
+    ensures tile { (extents shorter longer : List ℕ) (t : ℕ) → IsTiling extents shorter → IsTiling extents longer →
+        t < tile_count extents shorter → tile_of extents longer (tile_from extents shorter t) < tile_count extents longer }
+    ensures inside { (extents shorter longer : List ℕ) (t : ℕ) → IsTiling extents shorter → IsTiling extents longer →
+        AreMultiples longer shorter → t < tile_count extents shorter →
+        LiesInside (tile_rect extents shorter t) (tile_rect extents longer (tile_of extents longer (tile_from extents shorter t))) }
+    ensures alone { (extents shorter longer : List ℕ) (t u : ℕ) (at : List ℕ) → IsTiling extents shorter → IsTiling extents longer →
+        AreMultiples longer shorter → t < tile_count extents shorter → u < tile_count extents longer →
+        rect_contains (tile_rect extents shorter t) at ≡ true → rect_contains (tile_rect extents longer u) at ≡ true →
+        u ≡ tile_of extents longer (tile_from extents shorter t) }
+{}
+
+/// Blocks nest: each block of a level that is used lies inside one block of the next level, and no other block
+/// of that level has a cell of it.
+pub fn blocks_nest()
+    ensures block { (l : LayoutNumbers) (level b : ℕ) → IsLayout l → level + 1 < l.levels → b < block_count l level →
+        block_above l level b < block_count l (level + 1) }
+    ensures inside { (l : LayoutNumbers) (level b : ℕ) → IsLayout l → level + 1 < l.levels → b < block_count l level →
+        LiesInside (block_rect l level b) (block_rect l (level + 1) (block_above l level b)) }
+    ensures alone { (l : LayoutNumbers) (level b other : ℕ) (at : List ℕ) → IsLayout l → level + 1 < l.levels →
+        b < block_count l level → other < block_count l (level + 1) →
+        rect_contains (block_rect l level b) at ≡ true → rect_contains (block_rect l (level + 1) other) at ≡ true →
+        other ≡ block_above l level b }
+{}
+
+/// Each block of level 0 lies inside one chunk, and no other chunk has a cell of it.
+pub fn blocks_lie_in_chunks()
+    ensures chunk { (l : LayoutNumbers) (b : ℕ) → IsLayout l → b < block_count l 0 → chunk_around l b < chunk_count l }
+    ensures inside { (l : LayoutNumbers) (b : ℕ) → IsLayout l → b < block_count l 0 →
+        LiesInside (block_rect l 0 b) (chunk_rect l (chunk_around l b)) }
+    ensures alone { (l : LayoutNumbers) (b n : ℕ) (at : List ℕ) → IsLayout l → b < block_count l 0 → n < chunk_count l →
+        rect_contains (block_rect l 0 b) at ≡ true → rect_contains (chunk_rect l n) at ≡ true → n ≡ chunk_around l b }
+{}

@@ -1,0 +1,11 @@
+pub mod Appending
+pub mod Filters
+pub mod Folds
+pub mod Members
+pub mod Orders
+pub mod Ranges
+pub mod Rising
+pub mod Rules
+pub mod Short
+pub mod Sums
+pub mod Weights
