@@ -6,7 +6,7 @@ use std::alloc::Global;
 use std::path::PathBuf;
 use std::test::Fail;
 use std::{env, fs, process};
-use system_files::{FileShelf, StreamSink};
+use system_files::{FileShelf, WriterSink};
 
 /// A path of the test's own in the folder for temporary files.
 fn own_path(rt: &HostRuntime, name: &str) -> Result<PathBuf, Fail> {
@@ -145,7 +145,7 @@ fn a_file_is_made_in_place_of_one_that_was_there(rt: HostRuntime) -> Result<(), 
 #[test]
 fn a_write_to_a_stream_that_takes_nothing_is_counted(rt: HostRuntime) -> Result<(), Fail> {
     let mut room = [0; 3];
-    let mut sink = StreamSink::new(&mut room[..]);
+    let mut sink = WriterSink::new(&mut room[..]);
     assert_eq!(rt; (sink.write(b"hello"), sink.faults), (Ok(3), 0));
     assert_eq!(rt; (sink.write(b"lo"), sink.faults), (Err(Failed), 1));
     assert_eq!(rt; room, [b'h', b'e', b'l']);

@@ -1,6 +1,6 @@
-pub mod Status
 pub mod Ends
-pub mod Verdict
-pub mod Problem
 pub mod Info
+pub mod Problem
+pub mod Stops
 pub mod Texts
+pub mod Verdict

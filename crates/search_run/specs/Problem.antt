@@ -5,57 +5,36 @@ use Rattle.cells.specs.Cells.{array_of}
 use Rattle.array_file.specs.Stored.{refusal_of, stored_array}
 use Rattle.query_model.specs.declared.query.Query.{Query}
 use Rattle.query_text.specs.Walk.{walk}
+use Rattle.report.specs.declared.ending.Refusal.{Refusal}
+use Rattle.search_run.specs.Verdict.{query_refusal, problem_refusal}
 use Rattle.search_run.specs.declared.problem.Problem.{Problem}
-use Rattle.search_run.specs.declared.ending.Ending.{Ending}
-use Rattle.search_run.specs.declared.ending.Ending.TheVariants.{Done, Usage, ArrayRefused, TextRefused, QueryRefused, ReadFault, WriteFault, NoMemory}
-
--- the array file is not refused, where its bytes are told
-abbrev pub IsAccepted : Option (List ℕ) → Type 0
-IsAccepted told = MatchOption told ⊤ (λ bytes. refusal_of bytes ≡ None)
+use Rattle.search_run.specs.declared.stop.Stop.{Stop}
+use Rattle.search_run.specs.declared.stop.Stop.TheVariants.{Refused, Failed}
 
 -- the query is for arrays of this rank, and it is the one that the bytes state, or the refusal is theirs, where they are told
-abbrev pub LoadsQuery : ℕ → Option (List ℕ) → Result Query Ending → Type 0
+abbrev pub LoadsQuery : ℕ → Option (List ℕ) → Result Query Stop → Type 0
 LoadsQuery rank told (Ok q) = (q.rank ≡ rank) × MatchOption told ⊤ (λ bytes. walk rank bytes ≡ Ok q)
-LoadsQuery rank told (Err (QueryRefused r)) = MatchOption told ⊤ (λ bytes. walk rank bytes ≡ Err r)
-LoadsQuery rank told (Err ReadFault) = ⊤
-LoadsQuery rank told (Err NoMemory) = ⊤
-LoadsQuery rank told (Err Done) = ⊥
-LoadsQuery rank told (Err Usage) = ⊥
-LoadsQuery rank told (Err (ArrayRefused r)) = ⊥
-LoadsQuery rank told (Err (TextRefused r)) = ⊥
-LoadsQuery rank told (Err WriteFault) = ⊥
+LoadsQuery rank told (Err (Refused r)) = MatchOption told ⊤ (λ bytes. query_refusal (walk rank bytes) ≡ Some r)
+LoadsQuery rank told (Err (Failed f)) = ⊤
 
--- the same for arrays of the rank of an array file, where its bytes are told
-abbrev pub LoadsQueryFor : Option (List ℕ) → Option (List ℕ) → Result Query Ending → Type 0
-LoadsQueryFor array query result = MatchOption array ⊤ (λ bytes. LoadsQuery (stored_array bytes).rank query result)
+-- the query is the one that a query file states for arrays of the rank of an array file, where both are told
+abbrev pub IsStatedQuery : Option (List ℕ) → Option (List ℕ) → Query → Type 0
+IsStatedQuery array query q = MatchOption array ⊤ (λ a. MatchOption query ⊤ (λ bytes. walk (stored_array a).rank bytes ≡ Ok q))
 
--- the shape and the cells are those of the array of the bytes, where they are told
+-- the array file is not refused, and the rank, the shape and the cells are those of its array, where its bytes are told
 abbrev pub LoadsArray : Option (List ℕ) → Problem → Type 0
-LoadsArray told p = MatchOption told ⊤ (λ bytes. array_of (stored_array bytes).rank p.shape.extents p.cells.items ≡ stored_array bytes)
+LoadsArray told p = MatchOption told ⊤ (λ bytes. (refusal_of bytes ≡ None) × (p.query.rank ≡ (stored_array bytes).rank) × (array_of (stored_array bytes).rank p.shape.extents p.cells.items ≡ stored_array bytes))
+
+-- the refusal is the first one of the two files, where both are told
+abbrev pub IsProblemRefusal : Option (List ℕ) → Option (List ℕ) → Refusal → Type 0
+IsProblemRefusal array query r = MatchOption array ⊤ (λ a. MatchOption query ⊤ (λ q. problem_refusal a q ≡ Some r))
 
 -- the array and the query of the bytes, or the first refusal of the two, where they are told
-abbrev pub LoadsProblem : Option (List ℕ) → Option (List ℕ) → Result Problem Ending → Type 0
-LoadsProblem array query (Ok p) = IsAccepted array × LoadsArray array p × LoadsQueryFor array query (Ok p.query)
-LoadsProblem array query (Err (ArrayRefused r)) = MatchOption array ⊤ (λ bytes. refusal_of bytes ≡ Some r)
-LoadsProblem array query (Err (QueryRefused r)) = IsAccepted array × LoadsQueryFor array query (Err (QueryRefused r))
-LoadsProblem array query (Err ReadFault) = ⊤
-LoadsProblem array query (Err NoMemory) = ⊤
-LoadsProblem array query (Err Done) = ⊥
-LoadsProblem array query (Err Usage) = ⊥
-LoadsProblem array query (Err (TextRefused r)) = ⊥
-LoadsProblem array query (Err WriteFault) = ⊥
+abbrev pub LoadsProblem : Option (List ℕ) → Option (List ℕ) → Result Problem Stop → Type 0
+LoadsProblem array query (Ok p) = LoadsArray array p × IsStatedQuery array query p.query
+LoadsProblem array query (Err (Refused r)) = IsProblemRefusal array query r
+LoadsProblem array query (Err (Failed f)) = ⊤
 
 -- the bytes are those that are told
 abbrev pub IsTold : Option (List ℕ) → List ℕ → Type 0
 IsTold told bytes = MatchOption told ⊤ (λ all. bytes ≡ all)
-
--- a fault of reading or out of memory
-abbrev pub IsReadFaultOrNoMemory : Ending → Type 0
-IsReadFaultOrNoMemory ReadFault = ⊤
-IsReadFaultOrNoMemory NoMemory = ⊤
-IsReadFaultOrNoMemory Done = ⊥
-IsReadFaultOrNoMemory Usage = ⊥
-IsReadFaultOrNoMemory (ArrayRefused r) = ⊥
-IsReadFaultOrNoMemory (TextRefused r) = ⊥
-IsReadFaultOrNoMemory (QueryRefused r) = ⊥
-IsReadFaultOrNoMemory WriteFault = ⊥

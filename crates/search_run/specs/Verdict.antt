@@ -15,9 +15,16 @@ use Rattle.cells.specs.declared.cell.Cell.{Cell}
 use Rattle.query_model.specs.QueryParts.{QueryParts}
 use Rattle.query_model.specs.Text.{text_of}
 use Rattle.query_text.specs.Walk.{Walked, walk}
-use Rattle.search_run.specs.Info.{file_info}
-use Rattle.search_run.specs.declared.ending.Ending.{Ending}
-use Rattle.search_run.specs.declared.ending.Ending.TheVariants.{Done, Usage, ArrayRefused, TextRefused, QueryRefused}
+use Rattle.search_run.specs.Info.{file_info, array_refusal}
+use Rattle.report.specs.declared.ending.Refusal.{Refusal}
+use Rattle.report.specs.declared.ending.Refusal.TheVariants as refusal
+use Rattle.report.specs.declared.ending.Ending.{Ending}
+use Rattle.report.specs.declared.ending.Ending.TheVariants.{Done, Refused}
+
+-- how a command ends with this refusal, or without one
+abbrev pub verdict_of : Option Refusal → Ending
+verdict_of None = Done
+verdict_of (Some r) = Refused r
 
 -- ---- an array file and a query file
 
@@ -25,19 +32,19 @@ use Rattle.search_run.specs.declared.ending.Ending.TheVariants.{Done, Usage, Arr
 abbrev pub stated_query : List ℕ → List ℕ → Walked QueryParts
 stated_query array query = walk (stored_array array).rank query
 
--- `Done` where a query is read, and otherwise its refusal
-abbrev pub query_verdict : Walked QueryParts → Ending
-query_verdict (Ok q) = Done
-query_verdict (Err r) = QueryRefused r
+-- the refusal of a query; none where it is read
+abbrev pub query_refusal : Walked QueryParts → Option Refusal
+query_refusal (Ok q) = None
+query_refusal (Err r) = Some (refusal.Query r)
 
 -- the lines of the solutions of a query on an array, and none where the query is refused
 abbrev pub query_output : Array → Walked QueryParts → List ℕ
 query_output a (Ok q) = text_of a q
 query_output a (Err r) = []
 
--- the refusal of an array file, or otherwise of a query file, or otherwise `Done`
-abbrev pub problem_verdict : List ℕ → List ℕ → Ending
-problem_verdict array query = option_map_or ArrayRefused (refusal_of array) (query_verdict (stated_query array query))
+-- the refusal of an array file, or otherwise of a query file
+abbrev pub problem_refusal : List ℕ → List ℕ → Option Refusal
+problem_refusal array query = option_map_or (λ r. Some (refusal.Array r)) (refusal_of array) (query_refusal (stated_query array query))
 
 -- the lines of the solutions of the query in one file on the array in another, and none where one of them is refused
 abbrev pub problem_output : List ℕ → List ℕ → List ℕ
@@ -45,17 +52,17 @@ problem_output array query = option_map_or (λ r. []) (refusal_of array) (query_
 
 -- the same of the files with two names, where the files are told
 abbrev pub told_problem_verdict : Option Files → List ℕ → List ℕ → Option Ending
-told_problem_verdict held array query = option_map (λ files. problem_verdict (bytes_at files array) (bytes_at files query)) held
+told_problem_verdict held array query = option_map (λ files. verdict_of (problem_refusal (bytes_at files array) (bytes_at files query))) held
 
 abbrev pub told_problem_output : Option Files → List ℕ → List ℕ → Option (List ℕ)
 told_problem_output held array query = option_map (λ files. problem_output (bytes_at files array) (bytes_at files query)) held
 
 -- ---- an array text
 
--- `Done` where an array text is read, and otherwise its refusal
-abbrev pub text_verdict : TextWalked (LayoutNumbers × List Cell) → Ending
-text_verdict (Ok a) = Done
-text_verdict (Err r) = TextRefused r
+-- the refusal of an array text; none where it is read
+abbrev pub text_refusal : TextWalked (LayoutNumbers × List Cell) → Option Refusal
+text_refusal (Ok a) = None
+text_refusal (Err r) = Some (refusal.Text r)
 
 -- the bytes of the array file of a text; nothing where the text is refused
 abbrev pub packed_bytes : TextWalked (LayoutNumbers × List Cell) → Option (List ℕ)
@@ -68,16 +75,12 @@ packed_file name text = option_map (λ bytes. (name, bytes)) (packed_bytes (stat
 
 -- the same of the file with a name, where the files are told
 abbrev pub told_text_verdict : Option Files → List ℕ → Option Ending
-told_text_verdict held text = option_map (λ files. text_verdict (stated_array (bytes_at files text))) held
+told_text_verdict held text = option_map (λ files. verdict_of (text_refusal (stated_array (bytes_at files text)))) held
 
 abbrev pub told_packed_file : Option Files → List ℕ → List ℕ → Option (Option (List ℕ × List ℕ))
 told_packed_file held text array = option_map (λ files. packed_file array (bytes_at files text)) held
 
 -- ---- the layout and the cells of an array file
-
--- the refusal of an array file, or otherwise `Done`
-abbrev pub array_verdict : List ℕ → Ending
-array_verdict array = option_map_or ArrayRefused (refusal_of array) Done
 
 -- what `info` prints of an array file, and nothing where it is refused
 abbrev pub info_output : List ℕ → List ℕ
@@ -85,7 +88,7 @@ info_output array = option_map_or (λ r. []) (refusal_of array) (file_info array
 
 -- the same of the file with a name, where the files are told
 abbrev pub told_array_verdict : Option Files → List ℕ → Option Ending
-told_array_verdict held array = option_map (λ files. array_verdict (bytes_at files array)) held
+told_array_verdict held array = option_map (λ files. verdict_of (array_refusal (bytes_at files array))) held
 
 abbrev pub told_info_output : Option Files → List ℕ → Option (List ℕ)
 told_info_output held array = option_map (λ files. info_output (bytes_at files array)) held
@@ -94,8 +97,8 @@ told_info_output held array = option_map (λ files. info_output (bytes_at files 
 
 -- what a command does where nothing fails
 pub record Meaning : Type 0 where
-  -- how it ends on these files
-  pub verdict : Files → Ending
+  -- why it is refused on these files, if it is
+  pub refusal : Files → Option Refusal
   -- what it prints
   pub output : Files → List ℕ
   -- the name and the bytes of the file that it makes, where it makes one
@@ -107,7 +110,7 @@ pub record Meaning : Type 0 where
 abbrev pub listing : List ℕ → List ℕ → Meaning
 listing array query =
     record {
-      verdict = λ files. problem_verdict (bytes_at files array) (bytes_at files query);
+      refusal = λ files. problem_refusal (bytes_at files array) (bytes_at files query);
       output = λ files. problem_output (bytes_at files array) (bytes_at files query);
       file = λ files. None;
       openings = array ∷ query ∷ [];
@@ -117,7 +120,7 @@ listing array query =
 abbrev pub packing : List ℕ → List ℕ → Meaning
 packing text array =
     record {
-      verdict = λ files. text_verdict (stated_array (bytes_at files text));
+      refusal = λ files. text_refusal (stated_array (bytes_at files text));
       output = λ files. [];
       file = λ files. packed_file array (bytes_at files text);
       openings = text ∷ array ∷ [];
@@ -127,7 +130,7 @@ packing text array =
 abbrev pub describing : List ℕ → Meaning
 describing array =
     record {
-      verdict = λ files. array_verdict (bytes_at files array);
+      refusal = λ files. array_refusal (bytes_at files array);
       output = λ files. info_output (bytes_at files array);
       file = λ files. None;
       openings = array ∷ [];
@@ -142,7 +145,7 @@ meaning (info array) = describing array
 
 -- the verdict, the output and the file of a command, where the files are told
 abbrev pub told_command_verdict : Option Files → Command → Option Ending
-told_command_verdict held command = option_map (meaning command).verdict held
+told_command_verdict held command = option_map (λ files. verdict_of ((meaning command).refusal files)) held
 
 abbrev pub told_command_output : Option Files → Command → Option (List ℕ)
 told_command_output held command = option_map (meaning command).output held
@@ -154,7 +157,7 @@ told_command_file held command = option_map (meaning command).file held
 
 -- how a run with these words ends on these files, where nothing fails
 abbrev pub verdict : Files → List Text → Ending
-verdict files words = option_map_or (λ c. (meaning c).verdict files) (command_in words) Usage
+verdict files words = option_map_or (λ c. verdict_of ((meaning c).refusal files)) (command_in words) (Refused refusal.Words)
 
 -- what is printed where nothing fails
 abbrev pub whole_output : Files → List Text → List ℕ

@@ -1,50 +1,49 @@
 //! Loading an array and a query from the shelf, for the commands that list solutions.
-ghost use Rattle.std.specs.Prelude.{◌≡◌, ◌<◌, ◌≤◌, ◌⊎◌, ◌^◌, OnOk, IsErrOf, ◌∷◌, []};
+ghost use Rattle.std.specs.Prelude.{◌≡◌, ◌<◌, ◌≤◌, ◌⊎◌, ◌^◌, OnOk, IfErr, ◌∷◌, []};
 ghost use Rattle.source_io.specs.Told.{Rose};
 ghost use Rattle.source_io.specs.Files.{file_of};
 ghost use Rattle.lists.specs.Appending.{appended, AppendsPrefix};
 ghost use Rattle.search_run.specs.Problem.{LoadsQuery, LoadsProblem};
+ghost use Rattle.search_run.specs.Stops.{IsOfReading, IsCausedBy};
 
+use crate::Problem;
 use crate::read_all::read_all;
-use crate::{Ending, Problem};
-use array_file::{HeaderFault, read_header};
-use chunk_store::{CellsFault, read_cells};
+use crate::stop::Stop;
+use array_file::read_header;
+use chunk_store::read_cells;
 use query_model::Query;
-use query_text::{MOST_QUERY_BYTES, QueryFault, QueryRefusal, read_query};
-use source_io::{ByteSource, OpenFault, Shelf};
+use query_text::{MOST_QUERY_BYTES, QueryRefusal, read_query};
+use report::Refusal;
+use source_io::{ByteSource, Shelf};
 use std::alloc::Global;
 
 /// The query in a source, for arrays of a rank. A file that is too long is refused and not read.
-fn query_from<S: ByteSource>(alloc: Global, rank: u8, source: &mut S) -> Result<Query, Ending>
+fn query_from<S: ByteSource>(alloc: Global, rank: u8, source: &mut S) -> Result<Query, Stop>
     requires { (1 ≤ rank) × (rank ≤ 3) }
     ensures query { LoadsQuery rank (S.bytes source.old) result }
-    ensures cause { IsErrOf result Ending.ReadFault → Rose (S.faults source.old) (S.faults source.new) }
+    ensures reads { IfErr result IsOfReading }
+    ensures cause { IfErr result (IsCausedBy (Rose (S.faults source.old) (S.faults source.new))) }
     ensures faults { S.faults source.old ≤ S.faults source.new }
 {
     let size = source.size();
     if size > MOST_QUERY_BYTES as u64 {
-        return Err(Ending::QueryRefused(QueryRefusal::TooLong { size }));
+        return Err(Stop::Refused(Refusal::Query(QueryRefusal::TooLong { size })));
     }
-    let bytes = match read_all(alloc, source) {
-        Ok(bytes) => bytes,
-        Err(ending) => return Err(ending),
-    };
-    match read_query(alloc, bytes.as_slice(), rank) {
-        Ok(query) => Ok(query),
-        Err(QueryFault::Refused(refusal)) => Err(Ending::QueryRefused(refusal)),
-        Err(QueryFault::NoMemory) => Err(Ending::NoMemory),
-    }
+    let bytes = read_all(alloc, source)?;
+    let query = read_query(alloc, bytes.as_slice(), rank)?;
+    Ok(query)
 }
 
 /// Opens a query file, reads its query for arrays of a rank, and hands the file back.
 #[tactic(auto, using(lists::proofs::Appending::prefix_whole, lists::proofs::Appending::prefix_nothing))]
-fn load_query<F: Shelf>(alloc: Global, rank: u8, name: &str, shelf: &mut F) -> Result<Query, Ending>
+fn load_query<F: Shelf>(alloc: Global, rank: u8, name: &str, shelf: &mut F) -> Result<Query, Stop>
     requires rank { (1 ≤ rank) × (rank ≤ 3) }
     requires lent { F.lent shelf.old < 2 ^ 32 }
     ensures query { LoadsQuery rank (file_of (F.holds shelf.old) name.now) result }
-    ensures cause { IsErrOf result Ending.ReadFault →
-        Rose (F.faults shelf.old) (F.faults shelf.new)
-        ⊎ Rose (F.source_faults shelf.old) (F.source_faults shelf.new) }
+    ensures reads { IfErr result IsOfReading }
+    ensures cause { IfErr result (IsCausedBy
+        (Rose (F.faults shelf.old) (F.faults shelf.new)
+        ⊎ Rose (F.source_faults shelf.old) (F.source_faults shelf.new))) }
     ensures faults { F.faults shelf.old ≤ F.faults shelf.new }
     ensures source_faults { F.source_faults shelf.old ≤ F.source_faults shelf.new }
     ensures all_opened { OnOk result (F.opened shelf.new ≡ appended (F.opened shelf.old) (name.now ∷ [])) }
@@ -54,11 +53,7 @@ fn load_query<F: Shelf>(alloc: Global, rank: u8, name: &str, shelf: &mut F) -> R
     ensures sink_faults { F.sink_faults shelf.new ≡ F.sink_faults shelf.old }
     ensures making { F.making shelf.new ≡ F.making shelf.old }
 {
-    let mut file = match shelf.open(name) {
-        Ok(file) => file,
-        Err(OpenFault::Failed) => return Err(Ending::ReadFault),
-        Err(OpenFault::NoMemory) => return Err(Ending::NoMemory),
-    };
+    let mut file = shelf.open(name)?;
     let query = query_from(alloc, rank, &mut file);
     shelf.close(file);
     query
@@ -71,13 +66,14 @@ fn load_from<F: Shelf>(
     array: &mut F::Source,
     query: &str,
     shelf: &mut F,
-) -> Result<Problem, Ending>
+) -> Result<Problem, Stop>
     requires { F.lent shelf.old < 2 ^ 32 }
     ensures problem { LoadsProblem (F.Source.bytes array.old) (file_of (F.holds shelf.old) query.now) result }
-    ensures cause { IsErrOf result Ending.ReadFault →
-        Rose (F.Source.faults array.old) (F.Source.faults array.new)
+    ensures reads { IfErr result IsOfReading }
+    ensures cause { IfErr result (IsCausedBy
+        (Rose (F.Source.faults array.old) (F.Source.faults array.new)
         ⊎ Rose (F.faults shelf.old) (F.faults shelf.new)
-        ⊎ Rose (F.source_faults shelf.old) (F.source_faults shelf.new) }
+        ⊎ Rose (F.source_faults shelf.old) (F.source_faults shelf.new))) }
     ensures faults { F.faults shelf.old ≤ F.faults shelf.new }
     ensures source_faults { F.source_faults shelf.old ≤ F.source_faults shelf.new }
     ensures all_opened { OnOk result (F.opened shelf.new ≡ appended (F.opened shelf.old) (query.now ∷ [])) }
@@ -87,41 +83,32 @@ fn load_from<F: Shelf>(
     ensures sink_faults { F.sink_faults shelf.new ≡ F.sink_faults shelf.old }
     ensures making { F.making shelf.new ≡ F.making shelf.old }
 {
-    let layout = match read_header(array) {
-        Ok(layout) => layout,
-        Err(HeaderFault::Refused(refusal)) => return Err(Ending::ArrayRefused(refusal)),
-        Err(HeaderFault::Read) => return Err(Ending::ReadFault),
-    };
-    let query = match load_query(alloc, layout.rank(), query, shelf) {
-        Ok(query) => query,
-        Err(ending) => return Err(ending),
-    };
-    match read_cells(alloc, &layout, array) {
-        Ok(cells) => Ok(Problem {
-            query,
-            shape: layout.shape(),
-            cells,
-        }),
-        Err(CellsFault::Read) => Err(Ending::ReadFault),
-        Err(CellsFault::NoMemory) => Err(Ending::NoMemory),
-    }
+    let layout = read_header(array)?;
+    let query = load_query(alloc, layout.rank(), query, shelf)?;
+    let cells = read_cells(alloc, &layout, array)?;
+    Ok(Problem {
+        query,
+        shape: layout.shape(),
+        cells,
+    })
 }
 
 /// Opens an array file and a query file, loads the array and the query, and hands both files back.
-/// `ReadFault` only where a count of the shelf rose. The other errors are `ArrayRefused`, `QueryRefused` and
-/// `NoMemory`.
+/// It fails with `Read` only where a count of the shelf rose. The other stops are a refused array file, a refused
+/// query and no memory.
 pub fn load<F: Shelf>(
     alloc: Global,
     array: &str,
     query: &str,
     shelf: &mut F,
-) -> Result<Problem, Ending>
+) -> Result<Problem, Stop>
     requires { F.lent shelf.old < 2 ^ 16 }
     ensures problem { LoadsProblem
         (file_of (F.holds shelf.old) array.now) (file_of (F.holds shelf.old) query.now) result }
-    ensures cause { IsErrOf result Ending.ReadFault →
-        Rose (F.faults shelf.old) (F.faults shelf.new)
-        ⊎ Rose (F.source_faults shelf.old) (F.source_faults shelf.new) }
+    ensures reads { IfErr result IsOfReading }
+    ensures cause { IfErr result (IsCausedBy
+        (Rose (F.faults shelf.old) (F.faults shelf.new)
+        ⊎ Rose (F.source_faults shelf.old) (F.source_faults shelf.new))) }
     ensures all_opened { OnOk result
         (F.opened shelf.new ≡ appended (F.opened shelf.old) (array.now ∷ query.now ∷ [])) }
     ensures opened { AppendsPrefix (F.opened shelf.old) (array.now ∷ query.now ∷ []) (F.opened shelf.new) }
@@ -130,11 +117,7 @@ pub fn load<F: Shelf>(
     ensures sink_faults { F.sink_faults shelf.new ≡ F.sink_faults shelf.old }
     ensures making { F.making shelf.new ≡ F.making shelf.old }
 {
-    let mut source = match shelf.open(array) {
-        Ok(source) => source,
-        Err(OpenFault::Failed) => return Err(Ending::ReadFault),
-        Err(OpenFault::NoMemory) => return Err(Ending::NoMemory),
-    };
+    let mut source = shelf.open(array)?;
     let problem = load_from(alloc, &mut source, query, shelf);
     shelf.close(source);
     problem

@@ -4,6 +4,7 @@ ghost use Rattle.source_io.specs.Told.{Rose};
 ghost use Rattle.lists.specs.Appending.{appended, AppendsPrefix};
 ghost use Rattle.command_words.specs.Words.{command_in, names_command, bytes_of_words};
 ghost use Rattle.command_words.specs.Commands.{command_of};
+ghost use Rattle.report.specs.Status.{status_of};
 ghost use Rattle.search_run.specs.Verdict.{
   told_command_verdict,
   told_command_output,
@@ -26,12 +27,11 @@ ghost use Rattle.search_run.specs.Ends.{
   SaysEnding,
 };
 
-use crate::Ending;
 use crate::info::info;
 use crate::pack::pack;
 use crate::plain::list_solutions;
-use crate::status::report;
 use command_words::{Command, WordsFault, read_words};
+use report::{Ending, Failure, Refusal, report_ending};
 use source_io::{Shelf, Sink};
 use std::alloc::Global;
 
@@ -51,14 +51,14 @@ fn run_command<F: Shelf, O: Sink>(
         MakesFile (told_command_file (F.holds shelf.old) (command_of command.entry)) (F.holds shelf.old) (F.holds shelf.new) }
     ensures left { LeavesFile (told_command_file (F.holds shelf.old) (command_of command.entry))
         (F.holds shelf.old) (F.holds shelf.new) }
-    ensures unmade { result ≢ Ending.Done → result ≢ Ending.WriteFault → F.holds shelf.new ≡ F.holds shelf.old }
-    ensures read_fault { result ≡ Ending.ReadFault →
+    ensures unmade { result ≢ Ending.Done → status_of result ≢ 6 → F.holds shelf.new ≡ F.holds shelf.old }
+    ensures read_fault { status_of result ≡ 5 →
         Rose (F.faults shelf.old) (F.faults shelf.new)
         ⊎ Rose (F.source_faults shelf.old) (F.source_faults shelf.new) }
-    ensures write_fault { result ≡ Ending.WriteFault →
+    ensures write_fault { status_of result ≡ 6 →
         Rose (O.faults out.old) (O.faults out.new)
         ⊎ Rose (F.sink_faults shelf.old) (F.sink_faults shelf.new) }
-    ensures not_usage { result ≢ Ending.Usage }
+    ensures not_usage { status_of result ≢ 2 }
     ensures opened { AppendsPrefix (F.opened shelf.old) ((meaning (command_of command.entry)).openings) (F.opened shelf.new) }
     ensures all_opened { result ≡ Ending.Done →
         F.opened shelf.new ≡ appended (F.opened shelf.old) ((meaning (command_of command.entry)).openings) }
@@ -84,16 +84,16 @@ fn run<F: Shelf, O: Sink>(alloc: Global, words: &[String], shelf: &mut F, out: &
     ensures made { result ≡ Ending.Done →
         MakesFile (told_file (F.holds shelf.old) words.now) (F.holds shelf.old) (F.holds shelf.new) }
     ensures left { LeavesFile (told_file (F.holds shelf.old) words.now) (F.holds shelf.old) (F.holds shelf.new) }
-    ensures unmade { result ≢ Ending.Done → result ≢ Ending.WriteFault → F.holds shelf.new ≡ F.holds shelf.old }
-    ensures read_fault { result ≡ Ending.ReadFault →
+    ensures unmade { result ≢ Ending.Done → status_of result ≢ 6 → F.holds shelf.new ≡ F.holds shelf.old }
+    ensures read_fault { status_of result ≡ 5 →
         Rose (F.faults shelf.old) (F.faults shelf.new)
         ⊎ Rose (F.source_faults shelf.old) (F.source_faults shelf.new) }
-    ensures write_fault { result ≡ Ending.WriteFault →
+    ensures write_fault { status_of result ≡ 6 →
         Rose (O.faults out.old) (O.faults out.new)
         ⊎ Rose (F.sink_faults shelf.old) (F.sink_faults shelf.new) }
-    ensures usage { result ≡ Ending.Usage → command_in (bytes_of_words words.now) ≡ None }
-    ensures unread { command_in (bytes_of_words words.now) ≡ None → (result ≡ Ending.Usage) ⊎ (result ≡ Ending.NoMemory) }
-    ensures unnamed { names_command (bytes_of_words words.now) ≡ false → result ≡ Ending.Usage }
+    ensures usage { status_of result ≡ 2 → command_in (bytes_of_words words.now) ≡ None }
+    ensures unread { command_in (bytes_of_words words.now) ≡ None → (status_of result ≡ 2) ⊎ (status_of result ≡ 7) }
+    ensures unnamed { names_command (bytes_of_words words.now) ≡ false → status_of result ≡ 2 }
     ensures opened { AppendsPrefix (F.opened shelf.old) (openings (bytes_of_words words.now)) (F.opened shelf.new) }
     ensures all_opened { result ≡ Ending.Done →
         F.opened shelf.new ≡ appended (F.opened shelf.old) (openings (bytes_of_words words.now)) }
@@ -102,8 +102,8 @@ fn run<F: Shelf, O: Sink>(alloc: Global, words: &[String], shelf: &mut F, out: &
 {
     match read_words(alloc, words) {
         Ok(command) => run_command(alloc, command, shelf, out),
-        Err(WordsFault::Usage) => Ending::Usage,
-        Err(WordsFault::NoMemory) => Ending::NoMemory,
+        Err(WordsFault::Usage) => Ending::Refused(Refusal::Words),
+        Err(WordsFault::NoMemory) => Ending::Failed(Failure::NoMemory),
     }
 }
 
@@ -174,5 +174,5 @@ pub fn run_tool<F: Shelf, O: Sink, E: Sink>(
     ensures making { F.making shelf.new ≡ F.making shelf.old }
 {
     let ending = run(alloc, words, shelf, out);
-    report(ending, err)
+    report_ending(ending, err)
 }

@@ -5,20 +5,21 @@
 mod words;
 
 use crate::words::{after_name, all_words};
-use search_run::{report, run_tool};
+use report::report_ending;
+use search_run::run_tool;
 use std::process::ExitCode;
-use system_files::{FileShelf, StreamSink};
+use system_files::{FileShelf, WriterSink};
 
 fn main(rt: HostRuntime) -> ExitCode {
-    let mut err = StreamSink::new(rt.stderr());
+    let mut err = WriterSink::new(rt.stderr());
     let status = match all_words(&rt) {
         Ok(all) => {
             let words = after_name(all.as_slice());
             let mut shelf = FileShelf::new(rt, rt.alloc());
-            let mut out = StreamSink::new(rt.stdout());
+            let mut out = WriterSink::new(rt.stdout());
             run_tool(rt.alloc(), words, &mut shelf, &mut out, &mut err)
         }
-        Err(ending) => report(ending, &mut err),
+        Err(ending) => report_ending(ending, &mut err),
     };
     ExitCode::from(status)
 }

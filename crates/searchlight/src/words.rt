@@ -1,18 +1,20 @@
 //! The words of the command line.
 ghost use Rattle.std.specs.Prelude.{◌≡◌, drop};
 
-use search_run::Ending;
+use report::{Ending, Failure, Refusal};
 use std::env;
 use std::io::ErrorKind;
 use std::rt::Env;
 
-/// The program's name and the words after it, in order. `Usage` where one of them is no UTF-8, so that
-/// no command reads it; `NoMemory` where there is no memory for them.
+/// The program's name and the words after it, in order. Where one of them is no UTF-8, no
+/// command reads it: the words are refused. It fails with `NoMemory` where there is no memory for them.
 pub fn all_words<R: Env + AllocGlobal>(rt: &R) -> Result<Vec<String>, Ending> {
     match env::args(rt) {
-        Ok(words) => words.collect(rt.alloc()).map_err(|_| Ending::NoMemory),
-        Err(e) if e.kind() == ErrorKind::OutOfMemory => Err(Ending::NoMemory),
-        Err(_) => Err(Ending::Usage),
+        Ok(words) => words
+            .collect(rt.alloc())
+            .map_err(|_| Ending::Failed(Failure::NoMemory)),
+        Err(e) if e.kind() == ErrorKind::OutOfMemory => Err(Ending::Failed(Failure::NoMemory)),
+        Err(_) => Err(Ending::Refused(Refusal::Words)),
     }
 }
 

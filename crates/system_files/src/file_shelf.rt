@@ -3,8 +3,8 @@ ghost use Rattle.std.specs.Prelude.{◌≡◌, None, IfSome, option_map, string_
 ghost use Rattle.std.specs.Fs.{IsFile, file_type};
 
 use crate::fault_count::one_more;
-use crate::file_sink::FileSink;
 use crate::file_source::FileSource;
+use crate::writer_sink::WriterSink;
 use source_io::{NoMemory, OpenFault, Shelf};
 use std::alloc::Global;
 use std::fs;
@@ -57,7 +57,7 @@ where
 {
     type Source = FileSource<R::File>;
 
-    type Out = FileSink<R::File>;
+    type Out = WriterSink<R::File>;
 
     ghost holds = { λ _. None };
 
@@ -95,14 +95,14 @@ where
     }
 
     // A file that already has the path is made empty.
-    fn create(&mut self, name: &str) -> Result<FileSink<R::File>, OpenFault> {
+    fn create(&mut self, name: &str) -> Result<WriterSink<R::File>, OpenFault> {
         let Ok(made) = String::from_str(self.alloc, name) else {
             return Err(OpenFault::NoMemory);
         };
         match fs::create(&self.rt, name) {
             Ok(file) => {
                 self.making = Some(made);
-                Ok(FileSink::new(file))
+                Ok(WriterSink::new(file))
             }
             Err(_) => {
                 self.faults = one_more(self.faults);
@@ -111,7 +111,7 @@ where
         }
     }
 
-    fn finish(&mut self, _name: &str, out: FileSink<R::File>) {
+    fn finish(&mut self, _name: &str, out: WriterSink<R::File>) {
         self.sink_faults = self.sink_faults.saturating_add(out.close());
         self.making = None;
     }

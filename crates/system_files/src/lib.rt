@@ -8,14 +8,12 @@
 
 mod fault_count;
 mod file_shelf;
-mod file_sink;
 mod file_source;
 mod one_write;
 mod read_ahead;
-mod stream_sink;
 mod tries;
+mod writer_sink;
 
 pub use crate::file_shelf::FileShelf;
-pub use crate::file_sink::FileSink;
 pub use crate::file_source::FileSource;
-pub use crate::stream_sink::StreamSink;
+pub use crate::writer_sink::WriterSink;

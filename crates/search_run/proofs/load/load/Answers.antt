@@ -9,4 +9,4 @@ returns-clause-opened g c =
     let array = c.args.array.now ∷ [] in
     let query = c.args.query.now ∷ [] in
     subst (λ new. AppendsPrefix (opened c.args.shelf.now) (c.args.array.now ∷ query) new) (sym c.close.ensures.same_opened)
-    (prefix_after (opened c.args.shelf.now) (opened c.open.new.self) (opened c.load_from-problem.new.shelf) array query c.in-Ok.ensures.opened c.load_from-problem.ensures.opened)
+    (prefix_after (opened c.args.shelf.now) (opened c.open.new.self) (opened c.load_from-problem.new.shelf) array query c.in_ok-source.ensures.opened c.load_from-problem.ensures.opened)

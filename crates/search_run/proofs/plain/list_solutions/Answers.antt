@@ -1,15 +1,15 @@
 use Rattle.std.proofs.Common.{rules}
-use Rattle.source_io.specs.Files.{file_of}
-use Rattle.search_run.proofs.Endings.{prints_nothing, ends_unloaded, prints_whole, prints_prefix}
+use Rattle.search_run.specs.Verdict.{told_problem_output}
+use Rattle.search_run.proofs.Endings.{stop_prints_nothing, ends_unloaded, prints_whole, prints_prefix}
 use Rattle.search_run.proofs.plain.list_solutions.Goals as goal
 
 pub returns-in-Err-clause-verdict : goal.returns-in-Err-clause-verdict
 returns-in-Err-clause-verdict g c =
-    ends_unloaded (g.F.Shelf.holds c.args.shelf.now) c.args.array.now c.args.query.now c.in-Err.ending c.in-Err.ensures.problem
+    ends_unloaded (g.F.Shelf.holds c.args.shelf.now) c.args.array.now c.args.query.now c.in-Err.stop c.from.result c.from.ensures c.in-Err.ensures.problem
 
 pub returns-in-Err-clause-output : goal.returns-in-Err-clause-output
 returns-in-Err-clause-output g c =
-    prints_nothing (file_of (g.F.Shelf.holds c.args.shelf.now) c.args.array.now) (file_of (g.F.Shelf.holds c.args.shelf.now) c.args.query.now) _ (g.O.Sink.written c.args.out.now) c.in-Err.ending c.in-Err.ensures.problem
+    stop_prints_nothing (told_problem_output (g.F.Shelf.holds c.args.shelf.now) c.args.array.now c.args.query.now) (g.O.Sink.written c.args.out.now) c.in-Err.stop c.from.result c.from.ensures
 
 pub returns-in-Ok-print_solutions-clause-output : goal.returns-in-Ok-print_solutions-clause-output
 returns-in-Ok-print_solutions-clause-output g c =

@@ -5,22 +5,22 @@ use Rattle.search_run.proofs.run.run_tool.Goals as goal
 
 pub returns-clause-status : goal.returns-clause-status
 returns-clause-status g c =
-    status_is (told_verdict (g.F.Shelf.holds c.args.shelf.now) c.args.words.now) c.run-ending.result c.report.result c.report.ensures.status c.run-ending.ensures.verdict
+    status_is (told_verdict (g.F.Shelf.holds c.args.shelf.now) c.args.words.now) c.run-ending.result c.report_ending.result c.report_ending.ensures.status c.run-ending.ensures.verdict
 
 pub returns-clause-whole : goal.returns-clause-whole
 returns-clause-whole g c =
-    whole_is (told_output (g.F.Shelf.holds c.args.shelf.now) c.args.words.now) c.run-ending.result c.report.result _ _ c.report.ensures.status c.run-ending.ensures.output
+    whole_is (told_output (g.F.Shelf.holds c.args.shelf.now) c.args.words.now) c.run-ending.result c.report_ending.result _ _ c.report_ending.ensures.status c.run-ending.ensures.output
 
 pub returns-clause-silent : goal.returns-clause-silent
-returns-clause-silent g c = silent_is _ c.run-ending.result c.report.result _ _ c.report.ensures.status c.run-ending.ensures.output
+returns-clause-silent g c = silent_is _ c.run-ending.result c.report_ending.result _ _ c.report_ending.ensures.status c.run-ending.ensures.output
 
 pub returns-clause-prefix : goal.returns-clause-prefix
 returns-clause-prefix g c =
     prefix_is (told_output (g.F.Shelf.holds c.args.shelf.now) c.args.words.now) c.run-ending.result _ _ c.run-ending.ensures.output
 
 pub returns-clause-said : goal.returns-clause-said
-returns-clause-said g c = (c.run-ending.result, c.report.ensures.status, c.run-ending.ensures.verdict, c.report.ensures.said)
+returns-clause-said g c = (c.run-ending.result, c.report_ending.ensures.status, c.run-ending.ensures.verdict, c.report_ending.ensures.said)
 
 pub returns-clause-quiet : goal.returns-clause-quiet
 returns-clause-quiet g c =
-    quiet_is (Rose (g.E.Sink.faults c.args.err.now) (g.E.Sink.faults c.report.new.err)) c.run-ending.result c.report.result _ _ c.report.ensures.status c.report.ensures.said
+    quiet_is (Rose (g.E.Sink.faults c.args.err.now) (g.E.Sink.faults c.report_ending.new.err)) c.run-ending.result c.report_ending.result _ _ c.report_ending.ensures.status c.report_ending.ensures.said

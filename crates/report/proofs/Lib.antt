@@ -1,0 +1,3 @@
+pub mod Lines
+pub mod InfoText
+pub mod Says
