@@ -14,7 +14,7 @@ use Rattle.cells.specs.declared.cell.Cell.{Cell}
 use Rattle.array_file.specs.declared.refusal.FileRefusal.{FileRefusal}
 use Rattle.array_file.specs.Header.{layout_refusal, stored_layout}
 
--- the cell in the four bytes from a place on
+-- the cell in the four bytes from an offset on
 unfoldable pub cell_at : List ℕ → ℕ → Cell
 cell_at bytes at = record { 0 = cast_signed w32 (little_number 4 (drop at bytes)) }
 

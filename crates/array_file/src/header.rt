@@ -106,14 +106,12 @@ pub fn read_layout(bytes: &[u8], size: u64) -> Result<Layout, FileRefusal>
 /// Reads the layout of a file from its header, which is its first 96 bytes, or all of a shorter file.
 /// `Refused` exactly by the rules of `read_layout`; `Read` where the source counted a fault.
 pub fn read_header<S: ByteSource>(src: &mut S) -> Result<Layout, HeaderFault>
-    ensures read { ReadsHeader (S.bytes src.old) result }
-    ensures size { IfOk result (λ l. parts.file_size l ≡ S.len src.old) }
+    ensures read { ReadsHeader (S.file src.old).bytes result }
+    ensures size { IfOk result (λ l. parts.file_size l ≡ (S.file src.old).len) }
     ensures cause { IsErrOf result HeaderFault.Read → Rose (S.faults src.old) (S.faults src.new) }
     ensures faults { S.faults src.old ≤ S.faults src.new }
-    ensures asked { Asks (S.asked src.old) (S.asked src.new) 0 (min 96 (S.len src.old)) }
-    ensures same_bytes { S.bytes src.new ≡ S.bytes src.old }
-    ensures same_len { S.len src.new ≡ S.len src.old }
-    ensures same_name { S.opened_as src.new ≡ S.opened_as src.old }
+    ensures asked { Asks (S.asked src.old) (S.asked src.new) 0 (min 96 (S.file src.old).len) }
+    ensures same_file { S.file src.new ≡ S.file src.old }
 {
     let size = src.size();
     let mut bytes = [0; HEADER_BYTES];

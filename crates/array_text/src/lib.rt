@@ -17,4 +17,4 @@ mod text;
 mod word;
 
 pub use crate::fault::{TextFault, TextRefusal};
-pub use crate::read::{ArrayText, MOST_TEXT_BYTES, read_array_text};
+pub use crate::read::{ArrayText, check_size, read_array_text};

@@ -1,12 +1,13 @@
 //! Reading an array text.
 //! Used by `search_run`.
-ghost use Rattle.std.specs.Prelude.{◌≡◌, ◌≤◌, ◌^◌, length, IfOk};
+ghost use Rattle.std.specs.Prelude.{◌≡◌, ℕ, ◌<◌, ◌≤◌, ◌^◌, List, length, Err, IfOk, OnOk, IfErr};
 ghost use Rattle.lists.specs.Numbers.{product};
 ghost use Rattle.lists.specs.Rules.{first_broken};
 ghost use Rattle.layouts.specs.Rules.{layout_rules};
 ghost use Rattle.array_text.specs.Reads.{Gives, Shows, rest_of};
 ghost use Rattle.array_text.specs.Words.{words};
 ghost use Rattle.array_text.specs.Walk as walk;
+ghost use Rattle.array_text.specs.declared.fault.TextRefusal.TheVariants.{TooLong};
 
 use crate::bytes::skip_blanks;
 use crate::cell_words::read_cells;
@@ -17,8 +18,8 @@ use cells::Cell;
 use layouts::{Layout, LayoutNumbers};
 use std::alloc::Global;
 
-/// How many bytes an array text has at most.
-pub const MOST_TEXT_BYTES: usize = 1073741824;
+/// 2^30, the largest size of an array text in bytes.
+const MOST_TEXT_BYTES: u64 = 1073741824;
 
 /// What an array text states: the layout, and a cell for each place of the array, in row-major order.
 #[derive(Debug, Drop)]
@@ -76,6 +77,20 @@ fn read_short_text(alloc: Global, bytes: &[u8]) -> Result<ArrayText, TextFault>
     read_array(alloc, numbers, text)
 }
 
+/// Refuses the size of a text in bytes if it is too large. Such a text need not be read: whatever its bytes are, its
+/// first refusal is this one.
+#[tactic(auto, unfolding(crate::specs::Walk::stated_array))]
+pub fn check_size(size: u64) -> Result<(), TextRefusal>
+    ensures small { OnOk result (size ≤ 2 ^ 30) }
+    ensures large { IfErr result (λ r. (2 ^ 30 < size) × (r ≡ TooLong size)) }
+    ensures unread { IfErr result (λ r. (bytes : List ℕ) → length bytes ≡ size → walk.stated_array bytes ≡ Err r) }
+{
+    if size > MOST_TEXT_BYTES {
+        return Err(TextRefusal::TooLong { size });
+    }
+    Ok(())
+}
+
 /// Reads the array that a text states: its layout and its cells in row-major order. `Refused` exactly where
 /// the text breaks its grammar or the layout its rules, with the first refusal on the way through the words;
 /// `NoMemory` where memory ran out.
@@ -84,10 +99,6 @@ pub fn read_array_text(alloc: Global, bytes: &[u8]) -> Result<ArrayText, TextFau
     ensures exactly { Gives (λ a. (a.layout, a.cells.items)) (walk.stated_array bytes.now) result }
     ensures count { IfOk result (λ a. length a.cells.items ≡ product a.layout.extents) }
 {
-    if bytes.len() > MOST_TEXT_BYTES {
-        return Err(TextFault::Refused(TextRefusal::TooLong {
-            size: bytes.len() as u64,
-        }));
-    }
+    check_size(bytes.len() as u64)?;
     read_short_text(alloc, bytes)
 }

@@ -44,7 +44,7 @@ map-range_with_len-same f g n d same =
 a_cell : Cell
 a_cell = record { 0 = pos 0 }
 
--- the cells in a part of the bytes are those from its place on
+-- the cells in a part of the bytes are those from its offset on
 cells_from-part : (all : List ℕ) (at n : ℕ) → 4 * n ≤ length (drop at all) → cells_from (take (4 * n) (drop at all)) 0 n ≡ cells_from all at n
 unfolding cells_from
 cells_from-part all at n short =

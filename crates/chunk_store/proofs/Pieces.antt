@@ -6,7 +6,7 @@ use Rattle.chunk_store.specs.Pieces.{Pieces, AsksPieces}
 
 -- ---- lists of reads
 
--- within wider places
+-- within wider offsets
 pub pieces_wider : (a b c d : ℕ) (rs : List (ℕ × ℕ)) → a ≤ b → c ≤ d → Pieces b c rs → Pieces a d rs
 pieces_wider a b c d [] low high h = tt
 pieces_wider a b c d (r ∷ rs) low high h = (omega arith, h.1, h.2, omega arith, pieces_wider (r.0 + 1) (r.0 + 1) c d rs (omega arith) high h.4)
@@ -17,7 +17,7 @@ pieces_behind a b c [] more low high h later = pieces_wider a b c c more low (om
 pieces_behind a b c (r ∷ rs) more low high h later =
     (h.0, h.1, h.2, omega arith, pieces_behind (r.0 + 1) b c rs more (omega arith) high h.4 later)
 
--- reads within at most 4,096 places are pieces
+-- reads within at most 4,096 bytes are pieces
 pieces_of_rising : (a b : ℕ) (rs : List (ℕ × ℕ)) → b ≤ a + 4096 → Rising a b rs → Pieces a b rs
 pieces_of_rising a b [] short h = tt
 pieces_of_rising a b (r ∷ rs) short h = (h.0, h.1, omega arith, h.2, pieces_of_rising (r.0 + 1) b rs (omega arith) h.3)

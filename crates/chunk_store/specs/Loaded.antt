@@ -10,11 +10,11 @@ use Rattle.chunk_store.specs.FirstChunks.{HasFirstChunks}
 use Rattle.cells.specs.declared.cell.Cell.{Cell}
 use Rattle.array_file.specs.Stored.{cell_at, chunk_start}
 
--- the n cells in the bytes from a place on
+-- the n cells in the bytes from an offset on
 unfoldable pub cells_from : List ℕ → ℕ → ℕ → List Cell
 cells_from bytes at n = map (λ k. cell_at bytes (at + 4 * k)) (range_with_len 0 n)
 
--- these are the cells in the bytes from a place on, where the bytes are told
+-- these are the cells in the bytes from an offset on, where the bytes are told
 abbrev pub HoldsFrom : Option (List ℕ) → ℕ → List Cell → Type 0
 HoldsFrom None at cells = Unit {0}
 HoldsFrom (Some bytes) at cells = cells ≡ cells_from bytes at (length cells)

@@ -38,17 +38,15 @@ fn add_chunk<S: ByteSource>(
 ) -> Result<(), Failed>
     requires rules { IsLayout layout.now }
     requires chunk { n < chunk_count layout.now }
-    requires whole { file_size layout.now ≤ S.len src.old }
+    requires whole { file_size layout.now ≤ (S.file src.old).len }
     requires frame { length frame.old.cells ≡ chunk_cells layout.now }
-    requires cells { HoldsFirstChunks (S.bytes src.old) layout.now n cells.old }
-    ensures cells { OnOk result (HoldsFirstChunks (S.bytes src.old) layout.now (n + 1) cells.new) }
+    requires cells { HoldsFirstChunks (S.file src.old).bytes layout.now n cells.old }
+    ensures cells { OnOk result (HoldsFirstChunks (S.file src.old).bytes layout.now (n + 1) cells.new) }
     ensures frame { length frame.new.cells ≡ chunk_cells layout.now }
     ensures cause { OnErr result (Rose (S.faults src.old) (S.faults src.new)) }
     ensures faults { S.faults src.old ≤ S.faults src.new }
     ensures asked { AsksPieces (S.asked src.old) (S.asked src.new) (chunk_start layout.now n) (chunk_end layout.now n) }
-    ensures same_bytes { S.bytes src.new ≡ S.bytes src.old }
-    ensures same_len { S.len src.new ≡ S.len src.old }
-    ensures same_name { S.opened_as src.new ≡ S.opened_as src.old }
+    ensures same_file { S.file src.new ≡ S.file src.old }
 {
     load(layout, n, src, frame)?;
     place_chunk(layout, n, frame.cells(), cells);
@@ -62,16 +60,14 @@ fn add_chunks<S: ByteSource>(
     frame: &mut Frame,
     cells: &mut [Cell],
 ) -> Result<(), Failed>
-    requires whole { file_size layout.now ≤ S.len src.old }
+    requires whole { file_size layout.now ≤ (S.file src.old).len }
     requires frame { length frame.old.cells ≡ chunk_cells layout.now }
     requires cells { length cells.old ≡ product layout.now.extents }
-    ensures cells { OnOk result (HoldsCells (S.bytes src.old) layout.now cells.new) }
+    ensures cells { OnOk result (HoldsCells (S.file src.old).bytes layout.now cells.new) }
     ensures cause { OnErr result (Rose (S.faults src.old) (S.faults src.new)) }
     ensures faults { S.faults src.old ≤ S.faults src.new }
     ensures asked { AsksPieces (S.asked src.old) (S.asked src.new) 96 (file_size layout.now) }
-    ensures same_bytes { S.bytes src.new ≡ S.bytes src.old }
-    ensures same_len { S.len src.new ≡ S.len src.old }
-    ensures same_name { S.opened_as src.new ≡ S.opened_as src.old }
+    ensures same_file { S.file src.new ≡ S.file src.old }
 {
     for n in 0..layout.chunks() {
         add_chunk(layout, n, src, frame, cells)?;
@@ -87,17 +83,15 @@ pub fn read_cells<S: ByteSource>(
     layout: &Layout,
     src: &mut S,
 ) -> Result<Vec<Cell>, CellsFault>
-    requires { file_size layout.now ≤ S.len src.old }
-    ensures cells { IfOk result (λ cells. HoldsCells (S.bytes src.old) layout.now cells.items) }
-    ensures array { IfOk result (λ cells. MakesArray (S.bytes src.old) layout.now cells.items) }
+    requires { file_size layout.now ≤ (S.file src.old).len }
+    ensures cells { IfOk result (λ cells. HoldsCells (S.file src.old).bytes layout.now cells.items) }
+    ensures array { IfOk result (λ cells. MakesArray (S.file src.old).bytes layout.now cells.items) }
     ensures count { IfOk result (λ cells. length cells.items ≡ product layout.now.extents) }
     ensures few { IfOk result (λ cells. length cells.items ≤ MOST_CELLS) }
     ensures cause { IsErrOf result CellsFault.Read → Rose (S.faults src.old) (S.faults src.new) }
     ensures faults { S.faults src.old ≤ S.faults src.new }
     ensures asked { AsksPieces (S.asked src.old) (S.asked src.new) 96 (file_size layout.now) }
-    ensures same_bytes { S.bytes src.new ≡ S.bytes src.old }
-    ensures same_len { S.len src.new ≡ S.len src.old }
-    ensures same_name { S.opened_as src.new ≡ S.opened_as src.old }
+    ensures same_file { S.file src.new ≡ S.file src.old }
 {
     let Ok(mut frame) = Frame::new(alloc, layout) else {
         return Err(CellsFault::NoMemory);

@@ -33,14 +33,14 @@ pub fn chunks_follow_each_other()
     ensures last { (l : LayoutNumbers) → chunk_start l (chunk_count l) ≡ file_size l }
 {}
 
-/// Reads of a place up to another, and then from there on, are reads from the first place on. So chunks that
+/// Reads from an offset up to another, and then from there on, are reads from the first offset on. So chunks that
 /// are loaded in order are read in order.
 pub fn reads_go_on()
     ensures { (old mid new : Option (List (ℕ × ℕ))) (a b c : ℕ) → a ≤ b → b ≤ c →
         AsksPieces old mid a b → AsksPieces mid new b c → AsksPieces old new a c }
 {}
 
-/// Reads within some places are reads within wider ones, no reads are within any, and reads in pieces rise.
+/// Reads within some offsets are reads within wider ones, no reads are within any, and reads in pieces rise.
 pub fn reads_in_pieces()
     ensures wider { (old new : Option (List (ℕ × ℕ))) (a b c d : ℕ) → a ≤ b → c ≤ d → AsksPieces old new b c → AsksPieces old new a d }
     ensures none { (old : Option (List (ℕ × ℕ))) (a b : ℕ) → AsksPieces old old a b }

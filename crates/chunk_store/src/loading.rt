@@ -21,7 +21,7 @@ const PIECE_CELLS: usize = 1024;
 /// How many bytes they have.
 const PIECE_BYTES: usize = 4096;
 
-/// The cell in the four bytes from place `at` on.
+/// The cell in the four bytes from offset `at` on.
 fn cell(bytes: &[u8], at: usize) -> Cell
     requires { at + 4 ≤ length bytes.now }
     ensures { result ≡ cell_at bytes.now at }
@@ -40,7 +40,7 @@ fn put_cells(cells: &mut [Cell], bytes: &[u8])
     }
 }
 
-/// Reads so many cells as there are from place `at` on, at most a piece.
+/// Reads so many cells as there are from offset `at` on, at most a piece.
 fn read_piece<S: ByteSource>(
     src: &mut S,
     at: u64,
@@ -48,14 +48,12 @@ fn read_piece<S: ByteSource>(
     bytes: &mut [u8; PIECE_BYTES],
 ) -> Result<(), Failed>
     requires few { length cells.old ≤ PIECE_CELLS }
-    requires within { at + 4 * length cells.old ≤ S.len src.old }
-    ensures cells { OnOk result (HoldsFrom (S.bytes src.old) at cells.new) }
+    requires within { at + 4 * length cells.old ≤ (S.file src.old).len }
+    ensures cells { OnOk result (HoldsFrom (S.file src.old).bytes at cells.new) }
     ensures cause { OnErr result (Rose (S.faults src.old) (S.faults src.new)) }
     ensures faults { S.faults src.old ≤ S.faults src.new }
     ensures asked { AsksPieces (S.asked src.old) (S.asked src.new) at (at + 4 * length cells.old) }
-    ensures same_bytes { S.bytes src.new ≡ S.bytes src.old }
-    ensures same_len { S.len src.new ≡ S.len src.old }
-    ensures same_name { S.opened_as src.new ≡ S.opened_as src.old }
+    ensures same_file { S.file src.new ≡ S.file src.old }
 {
     let piece = &mut bytes[..4 * cells.len()];
     read_whole(src, at, piece)?;
@@ -63,16 +61,14 @@ fn read_piece<S: ByteSource>(
     Ok(())
 }
 
-/// Reads so many cells as there are from place `at` on, piece by piece.
+/// Reads so many cells as there are from offset `at` on, piece by piece.
 fn read_pieces<S: ByteSource>(src: &mut S, at: u64, cells: &mut [Cell]) -> Result<(), Failed>
-    requires { at + 4 * length cells.old ≤ S.len src.old }
-    ensures cells { OnOk result (HoldsFrom (S.bytes src.old) at cells.new) }
+    requires { at + 4 * length cells.old ≤ (S.file src.old).len }
+    ensures cells { OnOk result (HoldsFrom (S.file src.old).bytes at cells.new) }
     ensures cause { OnErr result (Rose (S.faults src.old) (S.faults src.new)) }
     ensures faults { S.faults src.old ≤ S.faults src.new }
     ensures asked { AsksPieces (S.asked src.old) (S.asked src.new) at (at + 4 * length cells.old) }
-    ensures same_bytes { S.bytes src.new ≡ S.bytes src.old }
-    ensures same_len { S.len src.new ≡ S.len src.old }
-    ensures same_name { S.opened_as src.new ≡ S.opened_as src.old }
+    ensures same_file { S.file src.new ≡ S.file src.old }
 {
     let _size = src.size();
     let mut bytes = [0; PIECE_BYTES];
@@ -96,18 +92,16 @@ pub fn load<S: ByteSource>(
     into: &mut Frame,
 ) -> Result<(), Failed>
     requires chunk { n < chunk_count layout.now }
-    requires whole { file_size layout.now ≤ S.len src.old }
+    requires whole { file_size layout.now ≤ (S.file src.old).len }
     requires frame { length into.old.cells ≡ chunk_cells layout.now }
     ensures chunk { OnOk result (into.new.chunk ≡ Some n) }
     ensures no_chunk { OnErr result (into.new.chunk ≡ None) }
-    ensures cells { OnOk result (HoldsChunk (S.bytes src.old) layout.now n into.new.cells) }
+    ensures cells { OnOk result (HoldsChunk (S.file src.old).bytes layout.now n into.new.cells) }
     ensures frame { length into.new.cells ≡ length into.old.cells }
     ensures cause { OnErr result (Rose (S.faults src.old) (S.faults src.new)) }
     ensures faults { S.faults src.old ≤ S.faults src.new }
     ensures asked { AsksPieces (S.asked src.old) (S.asked src.new) (chunk_start layout.now n) (chunk_end layout.now n) }
-    ensures same_bytes { S.bytes src.new ≡ S.bytes src.old }
-    ensures same_len { S.len src.new ≡ S.len src.old }
-    ensures same_name { S.opened_as src.new ≡ S.opened_as src.old }
+    ensures same_file { S.file src.new ≡ S.file src.old }
 {
     into.chunk = None;
     read_pieces(src, chunk_offset(layout, n), into.cells.as_mut_slice())?;

@@ -27,17 +27,15 @@ fn add_record<S: ByteSource>(
 ) -> Result<Record, Failed>
     requires rules { IsLayout layout.now }
     requires chunk { n < chunk_count layout.now }
-    requires whole { file_size layout.now ≤ S.len src.old }
+    requires whole { file_size layout.now ≤ (S.file src.old).len }
     requires frame { length frame.old.cells ≡ chunk_cells layout.now }
-    requires all { SumsFirst (S.bytes src.old) layout.now n all }
-    ensures all { IfOk result (λ r. SumsFirst (S.bytes src.old) layout.now (n + 1) r) }
+    requires all { SumsFirst (S.file src.old).bytes layout.now n all }
+    ensures all { IfOk result (λ r. SumsFirst (S.file src.old).bytes layout.now (n + 1) r) }
     ensures frame { length frame.new.cells ≡ chunk_cells layout.now }
     ensures cause { OnErr result (Rose (S.faults src.old) (S.faults src.new)) }
     ensures faults { S.faults src.old ≤ S.faults src.new }
     ensures asked { AsksPieces (S.asked src.old) (S.asked src.new) (chunk_start layout.now n) (chunk_end layout.now n) }
-    ensures same_bytes { S.bytes src.new ≡ S.bytes src.old }
-    ensures same_len { S.len src.new ≡ S.len src.old }
-    ensures same_name { S.opened_as src.new ≡ S.opened_as src.old }
+    ensures same_file { S.file src.new ≡ S.file src.old }
 {
     load(layout, n, src, frame)?;
     let one = chunk_record(layout, n, frame.cells());
@@ -50,17 +48,15 @@ fn add_records<S: ByteSource>(
     src: &mut S,
     frame: &mut Frame,
 ) -> Result<Record, Failed>
-    requires whole { file_size layout.now ≤ S.len src.old }
+    requires whole { file_size layout.now ≤ (S.file src.old).len }
     requires frame { length frame.old.cells ≡ chunk_cells layout.now }
-    ensures record { IfOk result (λ r. IsRecordOfCells (S.bytes src.old) layout.now r) }
-    ensures array { IfOk result (λ r. IsRecordOfArray (S.bytes src.old) layout.now r) }
+    ensures record { IfOk result (λ r. IsRecordOfCells (S.file src.old).bytes layout.now r) }
+    ensures array { IfOk result (λ r. IsRecordOfArray (S.file src.old).bytes layout.now r) }
     ensures count { IfOk result (λ r. r.count ≤ product layout.now.extents) }
     ensures cause { OnErr result (Rose (S.faults src.old) (S.faults src.new)) }
     ensures faults { S.faults src.old ≤ S.faults src.new }
     ensures asked { AsksPieces (S.asked src.old) (S.asked src.new) 96 (file_size layout.now) }
-    ensures same_bytes { S.bytes src.new ≡ S.bytes src.old }
-    ensures same_len { S.len src.new ≡ S.len src.old }
-    ensures same_name { S.opened_as src.new ≡ S.opened_as src.old }
+    ensures same_file { S.file src.new ≡ S.file src.old }
 {
     let mut all = NOTHING;
     for n in 0..layout.chunks() {
@@ -77,16 +73,14 @@ pub fn array_record<S: ByteSource>(
     layout: &Layout,
     src: &mut S,
 ) -> Result<Record, CellsFault>
-    requires { file_size layout.now ≤ S.len src.old }
-    ensures record { IfOk result (λ r. IsRecordOfCells (S.bytes src.old) layout.now r) }
-    ensures array { IfOk result (λ r. IsRecordOfArray (S.bytes src.old) layout.now r) }
+    requires { file_size layout.now ≤ (S.file src.old).len }
+    ensures record { IfOk result (λ r. IsRecordOfCells (S.file src.old).bytes layout.now r) }
+    ensures array { IfOk result (λ r. IsRecordOfArray (S.file src.old).bytes layout.now r) }
     ensures count { IfOk result (λ r. r.count ≤ product layout.now.extents) }
     ensures cause { IsErrOf result CellsFault.Read → Rose (S.faults src.old) (S.faults src.new) }
     ensures faults { S.faults src.old ≤ S.faults src.new }
     ensures asked { AsksPieces (S.asked src.old) (S.asked src.new) 96 (file_size layout.now) }
-    ensures same_bytes { S.bytes src.new ≡ S.bytes src.old }
-    ensures same_len { S.len src.new ≡ S.len src.old }
-    ensures same_name { S.opened_as src.new ≡ S.opened_as src.old }
+    ensures same_file { S.file src.new ≡ S.file src.old }
 {
     let Ok(mut frame) = Frame::new(alloc, layout) else {
         return Err(CellsFault::NoMemory);

@@ -1,6 +1,10 @@
-mod WordKinds
-mod Walks
-mod Pairs
-mod PairLaws
-mod Singles
 mod Reading
+mod WordKinds
+mod Places
+mod Walks
+mod Giving
+mod Built
+mod Finding
+mod Sound
+mod Limits
+mod SearchLaw

@@ -1,4 +1,12 @@
+pub mod Asked
+pub mod Parameters
+pub mod Rules
 pub mod Rows
+pub mod Texts
+pub mod Solo
+pub mod Verify
+pub mod Pack
+pub mod Info
+pub mod Search
 pub mod Words
 pub mod Commands
-pub mod Texts

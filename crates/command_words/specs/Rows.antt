@@ -1,40 +1,31 @@
--- The rules by which `clap` reads the words after each command's name.
+-- What `clap` finds in words: rows, each with the id of a parameter and its values.
 -- Used to say which command words name.
-use Rattle.std.specs.Prelude.{true, Some, codes}
-use Rattle.clap.specs.Words.{App, Rule, Text, new_app, new_rule, with_rule}
-use Rattle.clap.specs.declared.builder.action.ArgAction.TheVariants.{Set}
+use Rattle.std.specs.Prelude.{ℕ, Bool, List, [], ◌∷◌, map, Option, Some, None, unwrap_or, codes}
+use Rattle.std.specs.Str.{bytes_eq}
+use Rattle.clap.specs.Words.{App, Kinds, Row, Text, fault_of, matches_of, first_of}
+use Rattle.command_words.specs.Parameters.{Parameter, id_of, number_of}
 
--- a text that has to be given, by its place alone
-abbrev pub text_rule : Text → Rule
-text_rule id = record (new_rule id) { required = true; action = Some Set }
+-- the rows, where there is no kind of fault
+abbrev pub unless_fault : Kinds → List Row → Option (List Row)
+unless_fault [] rows = Some rows
+unless_fault (kind ∷ kinds) rows = None
 
--- a command that is given the words after its name, and has no flag for help
-abbrev pub bare_app : Text → App
-bare_app name =
-    let a = new_app name in record a { top = record a.top { no_binary_name = true; disable_help_flag = true } }
+-- what `clap` finds in the words by these rules, where it finds no fault in them
+abbrev pub rows_in : App → List Text → Option (List Row)
+rows_in app words = unless_fault (fault_of app words) (matches_of app words)
 
--- a command of one text
-abbrev pub single_app : Text → Text → App
-single_app name only = with_rule (bare_app name) (text_rule only)
+-- the text with this id, which each required text has
+abbrev pub text_with_id : Text → List Row → Text
+text_with_id id rows = unwrap_or (first_of id rows) []
 
--- a command of two texts
-abbrev pub pair_app : Text → Text → Text → App
-pair_app name first second = with_rule (single_app name first) (text_rule second)
+-- the flag with this id was given: its text is `true`
+abbrev pub flag_with_id : Text → List Row → Bool
+flag_with_id id rows = bytes_eq (text_with_id id rows) (codes "true")
 
--- ---- the rows
+-- the number with this id
+abbrev pub number_with_id : Text → List Row → ℕ
+number_with_id id rows = number_of (text_with_id id rows)
 
--- `solo ARRAY QUERY`
-abbrev pub solo_app : App
-solo_app = pair_app (codes "solo") (codes "array") (codes "query")
-
--- `verify ARRAY QUERY`
-abbrev pub verify_app : App
-verify_app = pair_app (codes "verify") (codes "array") (codes "query")
-
--- `pack TEXT ARRAY`
-abbrev pub pack_app : App
-pack_app = pair_app (codes "pack") (codes "text") (codes "array")
-
--- `info ARRAY`
-abbrev pub info_app : App
-info_app = single_app (codes "info") (codes "array")
+-- the text of each parameter, in their order
+abbrev pub texts_found : List Parameter → List Row → List Text
+texts_found ps rows = map (λ p. text_with_id (id_of p) rows) ps

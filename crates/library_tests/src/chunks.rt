@@ -1,4 +1,4 @@
-//! Chunks of small files: which places are read, and what a read that fails leaves.
+//! Chunks of small files: which offsets are read, and what a read that fails leaves.
 ghost use Rattle.std.specs.Prelude.{◌+◌, ◌≤◌};
 
 use array_file::file_size;

@@ -9,8 +9,8 @@ use std::test::Fail;
 
 /// A shelf with two files, `one` and `two`.
 fn two_files(alloc: Global, plan: Plan) -> Result<MemShelf, AllocError>
-    ensures lent { IfOk result (λ shelf. ⟦<MemShelf as Shelf>⟧.lent shelf ≡ 0) }
-    ensures making { IfOk result (λ shelf. ⟦<MemShelf as Shelf>⟧.making shelf ≡ None) }
+    ensures lent { IfOk result (λ shelf. (⟦<MemShelf as Shelf>⟧.state shelf).lent ≡ 0) }
+    ensures making { IfOk result (λ shelf. (⟦<MemShelf as Shelf>⟧.state shelf).making ≡ None) }
 {
     let mut files = Vec::new(alloc);
     files.push((
@@ -26,9 +26,9 @@ fn two_files(alloc: Global, plan: Plan) -> Result<MemShelf, AllocError>
 
 /// Opens the file and reads bytes from its start. Whether all of it was done.
 fn read(shelf: &mut MemShelf, name: &str, into: &mut [u8]) -> bool
-    requires { ⟦<MemShelf as Shelf>⟧.lent shelf.old < 2 ^ 32 }
-    ensures lent { ⟦<MemShelf as Shelf>⟧.lent shelf.new ≡ ⟦<MemShelf as Shelf>⟧.lent shelf.old }
-    ensures making { ⟦<MemShelf as Shelf>⟧.making shelf.new ≡ ⟦<MemShelf as Shelf>⟧.making shelf.old }
+    requires { (⟦<MemShelf as Shelf>⟧.state shelf.old).lent < 2 ^ 32 }
+    ensures lent { (⟦<MemShelf as Shelf>⟧.state shelf.new).lent ≡ (⟦<MemShelf as Shelf>⟧.state shelf.old).lent }
+    ensures making { (⟦<MemShelf as Shelf>⟧.state shelf.new).making ≡ (⟦<MemShelf as Shelf>⟧.state shelf.old).making }
 {
     let Ok(mut source) = shelf.open(name) else {
         return false;
@@ -40,9 +40,9 @@ fn read(shelf: &mut MemShelf, name: &str, into: &mut [u8]) -> bool
 
 /// Creates a file, writes the bytes and finishes it. Whether all of them were written.
 fn keep(shelf: &mut MemShelf, name: &str, bytes: &[u8]) -> Result<bool, OpenFault>
-    requires { ⟦<MemShelf as Shelf>⟧.making shelf.old ≡ None }
-    ensures making { ⟦<MemShelf as Shelf>⟧.making shelf.new ≡ None }
-    ensures lent { ⟦<MemShelf as Shelf>⟧.lent shelf.new ≡ ⟦<MemShelf as Shelf>⟧.lent shelf.old }
+    requires { (⟦<MemShelf as Shelf>⟧.state shelf.old).making ≡ None }
+    ensures making { (⟦<MemShelf as Shelf>⟧.state shelf.new).making ≡ None }
+    ensures lent { (⟦<MemShelf as Shelf>⟧.state shelf.new).lent ≡ (⟦<MemShelf as Shelf>⟧.state shelf.old).lent }
 {
     let mut out = shelf.create(name)?;
     let whole = write_whole(&mut out, bytes).is_ok();

@@ -48,7 +48,7 @@ fn keep(shelf: &mut FileShelf<HostRuntime>, name: &str, bytes: &[u8]) -> Result<
     Ok(whole)
 }
 
-/// Whether up to 4,096 bytes from a place on are read as they were written.
+/// Whether up to 4,096 bytes from an offset on are read as they were written.
 fn reads_right<S: ByteSource>(source: &mut S, wrote: &[u8], at: usize) -> bool {
     let mut piece = [0; 4096];
     let wanted = piece.len().min(wrote.len().saturating_sub(at));
@@ -58,7 +58,7 @@ fn reads_right<S: ByteSource>(source: &mut S, wrote: &[u8], at: usize) -> bool {
 }
 
 #[test]
-fn reads_on_and_elsewhere_give_the_bytes_of_their_places(rt: HostRuntime) -> Result<(), Fail> {
+fn reads_on_and_elsewhere_give_the_bytes_of_their_offsets(rt: HostRuntime) -> Result<(), Fail> {
     let path = own_path(&rt, "pieces")?;
     let wrote = pattern(rt.alloc(), 150_000)?;
     fs::write(&rt, path.as_str(), wrote.as_slice())?;

@@ -32,8 +32,8 @@ const NO_MEMORY: &[u8] = b"searchlight: no memory\n";
 
 /// A shelf that holds the array as `a`, the query as `q` and the text as `t`.
 fn shelf_by(alloc: Global, plan: Plan) -> Result<MemShelf, AllocError>
-    ensures lent { IfOk result (λ shelf. ⟦<MemShelf as Shelf>⟧.lent shelf ≡ 0) }
-    ensures making { IfOk result (λ shelf. ⟦<MemShelf as Shelf>⟧.making shelf ≡ None) }
+    ensures lent { IfOk result (λ shelf. (⟦<MemShelf as Shelf>⟧.state shelf).lent ≡ 0) }
+    ensures making { IfOk result (λ shelf. (⟦<MemShelf as Shelf>⟧.state shelf).making ≡ None) }
 {
     let mut files = Vec::new(alloc);
     files.push((

@@ -26,5 +26,5 @@ mod variable;
 
 pub use crate::fault::QueryFault;
 pub use crate::location::{Field, Location, Part};
-pub use crate::read::{MOST_QUERY_BYTES, read_query};
+pub use crate::read::{check_size, read_query};
 pub use crate::refusal::QueryRefusal;

@@ -1,9 +1,10 @@
 //! Reads a query: its parts in their order, and then the limit on its points. `search_run` calls `read_query`.
-ghost use Rattle.std.specs.Prelude.{◌≡◌, ◌≤◌, length, map, IfOk};
+ghost use Rattle.std.specs.Prelude.{◌≡◌, ℕ, ◌<◌, ◌≤◌, List, length, map, Err, IfOk, OnOk, IfErr};
 ghost use Rattle.serde_json.specs.View.{view};
 ghost use Rattle.query_text.specs.Lists.{AreVariables, AreRegions};
 ghost use Rattle.query_text.specs.Reads.{Gives};
 ghost use Rattle.query_text.specs.Walk as walk;
+ghost use Rattle.query_text.specs.declared.refusal.QueryRefusal.TheVariants.{TooLong};
 
 use crate::constraint::read_constraints;
 use crate::keys::read_object;
@@ -17,7 +18,7 @@ use serde_json::Value;
 use std::alloc::Global;
 
 /// 2^20, the largest size of a query file in bytes.
-pub const MOST_QUERY_BYTES: usize = 1048576;
+const MOST_QUERY_BYTES: u64 = 1048576;
 
 const MOST_REGIONS: usize = 16;
 
@@ -106,6 +107,19 @@ fn read_short_query(alloc: Global, bytes: &[u8], rank: u8) -> Result<Query, Quer
     }
 }
 
+/// Refuses the size of a query file in bytes if it is too large. Such a file need not be read: whatever its bytes are,
+/// and whatever the rank of the array, its first refusal is this one.
+pub fn check_size(size: u64) -> Result<(), QueryRefusal>
+    ensures small { OnOk result (size ≤ walk.most_bytes) }
+    ensures large { IfErr result (λ r. (walk.most_bytes < size) × (r ≡ TooLong size)) }
+    ensures unread { IfErr result (λ r. (rank : ℕ) (bytes : List ℕ) → length bytes ≡ size → walk.walk rank bytes ≡ Err r) }
+{
+    if size > MOST_QUERY_BYTES {
+        return Err(QueryRefusal::TooLong { size });
+    }
+    Ok(())
+}
+
 /// The query that a file with these bytes holds, for arrays of this rank. `Refused` has the first refusal of the walk
 /// over it. `NoMemory` says that memory ran out.
 pub fn read_query(alloc: Global, bytes: &[u8], rank: u8) -> Result<Query, QueryFault>
@@ -113,11 +127,6 @@ pub fn read_query(alloc: Global, bytes: &[u8], rank: u8) -> Result<Query, QueryF
     ensures walk { Gives (λ q. q) (walk.walk rank bytes.now) result }
     ensures rank { IfOk result (λ q. q.rank ≡ rank) }
 {
-    if bytes.len() <= MOST_QUERY_BYTES {
-        read_short_query(alloc, bytes, rank)
-    } else {
-        Err(QueryFault::Refused(QueryRefusal::TooLong {
-            size: bytes.len() as u64,
-        }))
-    }
+    check_size(bytes.len() as u64)?;
+    read_short_query(alloc, bytes, rank)
 }

@@ -1,6 +1,6 @@
 -- How a command ends: where its files were loaded, and where they were not.
 -- Used by `list_solutions` and `info`.
-use Rattle.std.proofs.Common.{◌≡◌, ℕ, List, [], Option, Some, None, Ok, Err, MatchOption, refl, sym, ap, ◌∙◌, subst}
+use Rattle.std.proofs.Common.{◌≡◌, ℕ, List, [], Option, Some, None, Ok, MatchOption, refl, sym, ap, ◌∙◌, subst}
 use Rattle.std.specs.Option.{option_map_or}
 use Rattle.source_io.specs.Files.{Files, file_of, bytes_at}
 use Rattle.lists.specs.Appending.{appended, AppendsPrefix}
@@ -12,9 +12,9 @@ use Rattle.domains.specs.Points.{Point}
 use Rattle.query_model.specs.Answer.{answer}
 use Rattle.query_model.specs.Text.{lines_of, text_of}
 use Rattle.report.specs.declared.ending.Ending.{Ending}
-use Rattle.search_run.specs.Verdict.{stated_query, query_output, verdict_of, told_problem_verdict, told_problem_output}
-use Rattle.search_run.specs.Ends.{EndsAs, Prints, PrintsWhole, PrintsPrefix}
-use Rattle.search_run.specs.Problem.{LoadsProblem}
+use Rattle.search_run.specs.Meaning.{told_output_of}
+use Rattle.search_run.specs.Ends.{Prints, PrintsWhole, PrintsPrefix}
+use Rattle.search_run.specs.Problem.{stated_query, query_output, listing, LoadsProblem}
 use Rattle.search_run.specs.Stops.{ending_of}
 use Rattle.search_run.specs.declared.problem.Problem.{Problem}
 use Rattle.search_run.specs.declared.stop.Stop.{Stop}
@@ -30,21 +30,10 @@ pub stop_prints_nothing : (whole old : Option (List ℕ)) (s : Stop) (e : Ending
 stop_prints_nothing whole old (Refused r) e is = subst (λ ending. Prints ending whole old old) (sym is) refl
 stop_prints_nothing whole old (Failed f) e is = subst (λ ending. Prints ending whole old old) (sym is) (nothing_prints_prefix whole old)
 
--- the ending of a problem that was not loaded is the verdict
-stop_ends : (held : Option Files) (array query : List ℕ) (s : Stop) → LoadsProblem (file_of held array) (file_of held query) (Err s)
-    → EndsAs (told_problem_verdict held array query) (ending_of s)
-stop_ends None array query (Refused r) h = tt
-stop_ends (Some files) array query (Refused r) h = ap verdict_of h
-stop_ends held array query (Failed f) h = tt
-
-pub ends_unloaded : (held : Option Files) (array query : List ℕ) (s : Stop) (e : Ending) → e ≡ ending_of s → LoadsProblem (file_of held array) (file_of held query) (Err s)
-    → EndsAs (told_problem_verdict held array query) e
-ends_unloaded held array query s e is h = subst (EndsAs (told_problem_verdict held array query)) (sym is) (stop_ends held array query s h)
-
 -- what is printed of a problem that was loaded is the text of its files
 text_loaded : (held : Option Files) (array query : List ℕ) (p : Problem) (cells : List Cell) (points : List Point) → LoadsProblem (file_of held array) (file_of held query) (Ok p) → cells ≡ p.cells.items
     → points ≡ answer (array_of p.query.rank p.shape.extents cells) p.query
-    → MatchOption (told_problem_output held array query) (Unit {0}) (λ bytes. lines_of p.query points ≡ bytes)
+    → MatchOption (told_output_of held (listing array query)) (Unit {0}) (λ bytes. lines_of p.query points ≡ bytes)
 text_loaded None array query p cells points h same found = tt
 text_loaded (Some files) array query p cells points h same found =
     let a = stored_array (bytes_at files array) in
@@ -55,12 +44,12 @@ text_loaded (Some files) array query p cells points h same found =
 
 -- all of it, or a prefix of it
 pub prints_whole : (held : Option Files) (array query : List ℕ) (p : Problem) (cells : List Cell) (points : List Point) (old new : Option (List ℕ)) → LoadsProblem (file_of held array) (file_of held query) (Ok p)
-    → cells ≡ p.cells.items → points ≡ answer (array_of p.query.rank p.shape.extents cells) p.query → new ≡ appended old (lines_of p.query points) → PrintsWhole (told_problem_output held array query) old new
+    → cells ≡ p.cells.items → points ≡ answer (array_of p.query.rank p.shape.extents cells) p.query → new ≡ appended old (lines_of p.query points) → PrintsWhole (told_output_of held (listing array query)) old new
 prints_whole None array query p cells points old new h same found written = tt
 prints_whole (Some files) array query p cells points old new h same found written = written ∙ ap (appended old) (text_loaded (Some files) array query p cells points h same found)
 
 pub prints_prefix : (held : Option Files) (array query : List ℕ) (p : Problem) (cells : List Cell) (points : List Point) (old new : Option (List ℕ)) → LoadsProblem (file_of held array) (file_of held query) (Ok p)
-    → cells ≡ p.cells.items → points ≡ answer (array_of p.query.rank p.shape.extents cells) p.query → AppendsPrefix old (lines_of p.query points) new → PrintsPrefix (told_problem_output held array query) old new
+    → cells ≡ p.cells.items → points ≡ answer (array_of p.query.rank p.shape.extents cells) p.query → AppendsPrefix old (lines_of p.query points) new → PrintsPrefix (told_output_of held (listing array query)) old new
 prints_prefix None array query p cells points old new h same found written = tt
 prints_prefix (Some files) array query p cells points old new h same found written =
     subst (λ bytes. AppendsPrefix old bytes new) (text_loaded (Some files) array query p cells points h same found) written

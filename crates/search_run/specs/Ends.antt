@@ -1,12 +1,14 @@
 -- How a run ends: its status, its output, the file that it makes, and its line on the error stream.
 -- Used by each command and by the top call.
-use Rattle.std.specs.Prelude.{◌≡◌, ℕ, List, Option, Some, None, MatchOption, ⊤, ◌⊎◌, ◌≤◌}
+use Rattle.std.specs.Prelude.{◌≡◌, ◌≢◌, ℕ, List, Option, Some, None, MatchOption, ⊤, ◌⊎◌, ◌≤◌}
 use Rattle.lists.specs.Appending.{appended, AppendsPrefix}
 use Rattle.source_io.specs.Files.{Files, with_file, HasPrefix}
+use Rattle.source_io.specs.Shelf.{ShelfState, ReadsFailed}
 use Rattle.report.specs.Status.{status_of, message_of, Says}
 use Rattle.report.specs.declared.ending.Failure.TheVariants.{NoMemory}
 use Rattle.report.specs.declared.ending.Ending.{Ending}
 use Rattle.report.specs.declared.ending.Ending.TheVariants.{Done, Refused, Failed}
+use Rattle.search_run.specs.Meaning.{Meaning, told_verdict_of, told_file_of}
 
 -- an ending that is no failure is the verdict, where that is told
 abbrev pub EndsAs : Option Ending → Ending → Type 0
@@ -51,6 +53,22 @@ abbrev pub LeavesFile : Option (Option (List ℕ × List ℕ)) → Option Files 
 LeavesFile (Some (Some (name, bytes))) old new = (new ≡ old) ⊎ HasPrefix old name bytes new
 LeavesFile (Some None) old new = new ≡ old
 LeavesFile None old new = new ≡ old
+
+-- a command that means this ended so, on a shelf
+pub record RunsAs (m : Meaning) (ending : Ending) (old new : ShelfState) : Type 0 where
+  -- the ending is the verdict, unless something failed
+  pub verdict : EndsAs (told_verdict_of old.holds m) ending
+  -- its file was made at `Done`, a prefix of it may be there where a write failed, and otherwise no file changed
+  pub made : ending ≡ Done → MakesFile (told_file_of old.holds m) old.holds new.holds
+  pub left : LeavesFile (told_file_of old.holds m) old.holds new.holds
+  pub unmade : ending ≢ Done → status_of ending ≢ 6 → new.holds ≡ old.holds
+  -- a read fault has its cause
+  pub read_fault : status_of ending ≡ 5 → ReadsFailed old new
+  -- it opened or created its names in order, all of them at `Done`, and handed everything back
+  pub opened : AppendsPrefix old.opened m.openings new.opened
+  pub all_opened : ending ≡ Done → new.opened ≡ appended old.opened m.openings
+  pub lent : new.lent ≡ old.lent
+  pub making : new.making ≡ old.making
 
 -- the line of an ending with this status was written; the ending is the verdict, where that is told and nothing failed
 abbrev pub SaysEnding : Option Ending → ℕ → Type 0 → Option (List ℕ) → Option (List ℕ) → Type 0

@@ -1,5 +1,8 @@
 pub mod Ends
 pub mod Info
+pub mod Loads
+pub mod Meaning
+pub mod Meanings
 pub mod Problem
 pub mod Stops
 pub mod Texts

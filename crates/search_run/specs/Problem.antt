@@ -1,15 +1,55 @@
--- What loading an array and a query answers.
+-- What it means to list the solutions of a query on an array, and what loading the two answers.
 -- Used by the commands that list solutions.
-use Rattle.std.specs.Prelude.{◌≡◌, ℕ, List, Option, Some, None, Result, Ok, Err, MatchOption, ⊤}
+use Rattle.std.specs.Prelude.{◌≡◌, ℕ, List, [], ◌∷◌, Option, Some, None, Result, Ok, Err, MatchOption, ⊤}
+use Rattle.std.specs.Option.{option_map_or}
+use Rattle.source_io.specs.Files.{bytes_at}
+use Rattle.cells.specs.Array.{Array}
 use Rattle.cells.specs.Cells.{array_of}
 use Rattle.array_file.specs.Stored.{refusal_of, stored_array}
+use Rattle.query_model.specs.QueryParts.{QueryParts}
+use Rattle.query_model.specs.Text.{text_of}
 use Rattle.query_model.specs.declared.query.Query.{Query}
-use Rattle.query_text.specs.Walk.{walk}
+use Rattle.query_text.specs.Walk.{Walked, walk}
 use Rattle.report.specs.declared.ending.Refusal.{Refusal}
-use Rattle.search_run.specs.Verdict.{query_refusal, problem_refusal}
+use Rattle.report.specs.declared.ending.Refusal.TheVariants as refusal
+use Rattle.search_run.specs.Meaning.{Meaning}
 use Rattle.search_run.specs.declared.problem.Problem.{Problem}
 use Rattle.search_run.specs.declared.stop.Stop.{Stop}
 use Rattle.search_run.specs.declared.stop.Stop.TheVariants.{Refused, Failed}
+
+-- the query that a query file states for arrays of the rank of an array file, or its first refusal
+abbrev pub stated_query : List ℕ → List ℕ → Walked QueryParts
+stated_query array query = walk (stored_array array).rank query
+
+-- the refusal of a query; none where it is read
+abbrev pub query_refusal : Walked QueryParts → Option Refusal
+query_refusal (Ok q) = None
+query_refusal (Err r) = Some (refusal.Query r)
+
+-- the lines of the solutions of a query on an array, and none where the query is refused
+abbrev pub query_output : Array → Walked QueryParts → List ℕ
+query_output a (Ok q) = text_of a q
+query_output a (Err r) = []
+
+-- the refusal of an array file, or otherwise of a query file
+abbrev pub problem_refusal : List ℕ → List ℕ → Option Refusal
+problem_refusal array query = option_map_or (λ r. Some (refusal.Array r)) (refusal_of array) (query_refusal (stated_query array query))
+
+-- the lines of the solutions of the query in one file on the array in another, and none where one of them is refused
+abbrev pub problem_output : List ℕ → List ℕ → List ℕ
+problem_output array query = option_map_or (λ r. []) (refusal_of array) (query_output (stored_array array) (stated_query array query))
+
+-- to print the solutions of a query on an array
+abbrev pub listing : List ℕ → List ℕ → Meaning
+listing array query =
+    record {
+      refusal = λ files. problem_refusal (bytes_at files array) (bytes_at files query);
+      output = λ files. problem_output (bytes_at files array) (bytes_at files query);
+      file = λ files. None;
+      openings = array ∷ query ∷ [];
+    }
+
+-- ---- loading
 
 -- the query is for arrays of this rank, and it is the one that the bytes state, or the refusal is theirs, where they are told
 abbrev pub LoadsQuery : ℕ → Option (List ℕ) → Result Query Stop → Type 0

@@ -4,10 +4,12 @@ use Rattle.std.specs.Prelude.{◌≡◌, ◌≢◌, ◌⊎◌, ℕ}
 use Rattle.array_file.specs.declared.header.HeaderFault.{HeaderFault}
 use Rattle.array_file.specs.declared.header.HeaderFault.TheVariants as header
 use Rattle.array_text.specs.declared.fault.TextFault.{TextFault}
+use Rattle.array_text.specs.declared.fault.TextRefusal.{TextRefusal}
 use Rattle.array_text.specs.declared.fault.TextFault.TheVariants as text
 use Rattle.chunk_store.specs.declared.array.CellsFault.{CellsFault}
 use Rattle.chunk_store.specs.declared.array.CellsFault.TheVariants as cells
 use Rattle.query_text.specs.declared.fault.QueryFault.{QueryFault}
+use Rattle.query_text.specs.declared.refusal.QueryRefusal.{QueryRefusal}
 use Rattle.query_text.specs.declared.fault.QueryFault.TheVariants as query
 use Rattle.source_io.specs.declared.fault.OpenFault.{OpenFault}
 use Rattle.source_io.specs.declared.fault.OpenFault.TheVariants as opening
@@ -54,10 +56,18 @@ abbrev pub stop_at_cells : CellsFault → Stop
 stop_at_cells cells.Read = Failed Read
 stop_at_cells cells.NoMemory = Failed NoMemory
 
+-- a refused query
+abbrev pub stop_for_query : QueryRefusal → Stop
+stop_for_query r = Refused (Query r)
+
 abbrev pub stop_at_query : QueryFault → Stop
-stop_at_query (query.Refused r) = Refused (Query r)
+stop_at_query (query.Refused r) = stop_for_query r
 stop_at_query query.NoMemory = Failed NoMemory
 
+-- a refused array text
+abbrev pub stop_for_text : TextRefusal → Stop
+stop_for_text r = Refused (Text r)
+
 abbrev pub stop_at_text : TextFault → Stop
-stop_at_text (text.Refused r) = Refused (Text r)
+stop_at_text (text.Refused r) = stop_for_text r
 stop_at_text text.NoMemory = Failed NoMemory

@@ -1,5 +1,5 @@
 //! Reading whole files: queries and array texts.
-//! Used in this crate by `load` and `pack`.
+//! Used in this crate by `query_file` and `pack`.
 ghost use Rattle.std.specs.Prelude.{◌≡◌, ◌≤◌, IfOk, IfErr};
 ghost use Rattle.source_io.specs.Told.{Rose};
 ghost use Rattle.search_run.specs.Problem.{IsTold};
@@ -13,7 +13,7 @@ use std::alloc::Global;
 /// Reads all bytes of a source. It fails with `Read` only where the source counted a fault, and with `NoMemory`
 /// where there is no memory for the bytes.
 pub fn read_all<S: ByteSource>(alloc: Global, source: &mut S) -> Result<Vec<u8>, Stop>
-    ensures bytes { IfOk result (λ v. IsTold (S.bytes source.old) v.items) }
+    ensures bytes { IfOk result (λ v. IsTold (S.file source.old).bytes v.items) }
     ensures kinds { IfErr result IsReadFaultOrNoMemory }
     ensures cause { IfErr result (IsCausedBy (Rose (S.faults source.old) (S.faults source.new))) }
     ensures faults { S.faults source.old ≤ S.faults source.new }

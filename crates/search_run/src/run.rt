@@ -1,22 +1,16 @@
 //! The top call, which the program makes.
 ghost use Rattle.std.specs.Prelude.{◌≡◌, ◌≢◌, ◌<◌, ◌≤◌, ◌^◌, ◌⊎◌, None, false};
 ghost use Rattle.source_io.specs.Told.{Rose};
+ghost use Rattle.source_io.specs.Shelf.{ReadsFailed, WritesFailed};
 ghost use Rattle.lists.specs.Appending.{appended, AppendsPrefix};
-ghost use Rattle.command_words.specs.Words.{command_in, names_command, bytes_of_words};
+ghost use Rattle.command_words.specs.Words.{names_command, bytes_of_words};
 ghost use Rattle.command_words.specs.Commands.{command_of};
 ghost use Rattle.report.specs.Status.{status_of};
-ghost use Rattle.search_run.specs.Verdict.{
-  told_command_verdict,
-  told_command_output,
-  told_command_file,
-  meaning,
-  told_verdict,
-  told_output,
-  told_file,
-  openings,
-};
+ghost use Rattle.search_run.specs.Meaning.{told_output_of};
+ghost use Rattle.search_run.specs.Meanings.{meaning, meaning_in, done_for};
+ghost use Rattle.search_run.specs.Verdict.{asked_by, told_verdict, told_output, told_file, openings};
 ghost use Rattle.search_run.specs.Ends.{
-  EndsAs,
+  RunsAs,
   MakesFile,
   LeavesFile,
   Prints,
@@ -42,63 +36,41 @@ fn run_command<F: Shelf, O: Sink>(
     shelf: &mut F,
     out: &mut O,
 ) -> Ending
-    requires lent { F.lent shelf.old < 2 ^ 16 }
-    requires making { F.making shelf.old ≡ None }
-    ensures verdict { EndsAs (told_command_verdict (F.holds shelf.old) (command_of command.entry)) result }
-    ensures output { Prints result (told_command_output (F.holds shelf.old) (command_of command.entry))
+    requires lent { (F.state shelf.old).lent < 2 ^ 16 }
+    requires making { (F.state shelf.old).making ≡ None }
+    ensures runs { RunsAs (done_for (meaning (command_of command.entry))) result (F.state shelf.old) (F.state shelf.new) }
+    ensures output { Prints result
+        (told_output_of (F.state shelf.old).holds (done_for (meaning (command_of command.entry))))
         (O.written out.old) (O.written out.new) }
-    ensures made { result ≡ Ending.Done →
-        MakesFile (told_command_file (F.holds shelf.old) (command_of command.entry)) (F.holds shelf.old) (F.holds shelf.new) }
-    ensures left { LeavesFile (told_command_file (F.holds shelf.old) (command_of command.entry))
-        (F.holds shelf.old) (F.holds shelf.new) }
-    ensures unmade { result ≢ Ending.Done → status_of result ≢ 6 → F.holds shelf.new ≡ F.holds shelf.old }
-    ensures read_fault { status_of result ≡ 5 →
-        Rose (F.faults shelf.old) (F.faults shelf.new)
-        ⊎ Rose (F.source_faults shelf.old) (F.source_faults shelf.new) }
     ensures write_fault { status_of result ≡ 6 →
-        Rose (O.faults out.old) (O.faults out.new)
-        ⊎ Rose (F.sink_faults shelf.old) (F.sink_faults shelf.new) }
-    ensures not_usage { status_of result ≢ 2 }
-    ensures opened { AppendsPrefix (F.opened shelf.old) ((meaning (command_of command.entry)).openings) (F.opened shelf.new) }
-    ensures all_opened { result ≡ Ending.Done →
-        F.opened shelf.new ≡ appended (F.opened shelf.old) ((meaning (command_of command.entry)).openings) }
-    ensures lent { F.lent shelf.new ≡ F.lent shelf.old }
-    ensures making { F.making shelf.new ≡ F.making shelf.old }
+        Rose (O.faults out.old) (O.faults out.new) ⊎ WritesFailed (F.state shelf.old) (F.state shelf.new) }
+    ensures usage { status_of result ≡ 2 → meaning (command_of command.entry) ≡ None }
+    ensures unread { meaning (command_of command.entry) ≡ None → status_of result ≡ 2 }
 {
     match command {
         Command::Solo { array, query } => list_solutions(alloc, array, query, shelf, out),
         Command::Verify { array, query } => list_solutions(alloc, array, query, shelf, out),
         Command::Pack { text, array } => pack(alloc, text, array, shelf),
         Command::Info { array } => info(alloc, array, shelf, out),
+        Command::Search { .. } => Ending::Refused(Refusal::Words),
     }
 }
 
 /// Runs the command that the words name, and answers how it ended. It writes nothing to the error stream.
 #[tactic(auto, using(lists::proofs::Appending::prefix_nothing))]
 fn run<F: Shelf, O: Sink>(alloc: Global, words: &[String], shelf: &mut F, out: &mut O) -> Ending
-    requires lent { F.lent shelf.old < 2 ^ 16 }
-    requires making { F.making shelf.old ≡ None }
-    ensures verdict { EndsAs (told_verdict (F.holds shelf.old) words.now) result }
-    ensures output { Prints result (told_output (F.holds shelf.old) words.now)
+    requires lent { (F.state shelf.old).lent < 2 ^ 16 }
+    requires making { (F.state shelf.old).making ≡ None }
+    ensures runs { RunsAs (asked_by words.now) result
+        (F.state shelf.old) (F.state shelf.new) }
+    ensures output { Prints result
+        (told_output_of (F.state shelf.old).holds (asked_by words.now))
         (O.written out.old) (O.written out.new) }
-    ensures made { result ≡ Ending.Done →
-        MakesFile (told_file (F.holds shelf.old) words.now) (F.holds shelf.old) (F.holds shelf.new) }
-    ensures left { LeavesFile (told_file (F.holds shelf.old) words.now) (F.holds shelf.old) (F.holds shelf.new) }
-    ensures unmade { result ≢ Ending.Done → status_of result ≢ 6 → F.holds shelf.new ≡ F.holds shelf.old }
-    ensures read_fault { status_of result ≡ 5 →
-        Rose (F.faults shelf.old) (F.faults shelf.new)
-        ⊎ Rose (F.source_faults shelf.old) (F.source_faults shelf.new) }
     ensures write_fault { status_of result ≡ 6 →
-        Rose (O.faults out.old) (O.faults out.new)
-        ⊎ Rose (F.sink_faults shelf.old) (F.sink_faults shelf.new) }
-    ensures usage { status_of result ≡ 2 → command_in (bytes_of_words words.now) ≡ None }
-    ensures unread { command_in (bytes_of_words words.now) ≡ None → (status_of result ≡ 2) ⊎ (status_of result ≡ 7) }
+        Rose (O.faults out.old) (O.faults out.new) ⊎ WritesFailed (F.state shelf.old) (F.state shelf.new) }
+    ensures usage { status_of result ≡ 2 → meaning_in (bytes_of_words words.now) ≡ None }
+    ensures unread { meaning_in (bytes_of_words words.now) ≡ None → (status_of result ≡ 2) ⊎ (status_of result ≡ 7) }
     ensures unnamed { names_command (bytes_of_words words.now) ≡ false → status_of result ≡ 2 }
-    ensures opened { AppendsPrefix (F.opened shelf.old) (openings (bytes_of_words words.now)) (F.opened shelf.new) }
-    ensures all_opened { result ≡ Ending.Done →
-        F.opened shelf.new ≡ appended (F.opened shelf.old) (openings (bytes_of_words words.now)) }
-    ensures lent { F.lent shelf.new ≡ F.lent shelf.old }
-    ensures making { F.making shelf.new ≡ F.making shelf.old }
 {
     match read_words(alloc, words) {
         Ok(command) => run_command(alloc, command, shelf, out),
@@ -126,52 +98,48 @@ pub fn run_tool<F: Shelf, O: Sink, E: Sink>(
     out: &mut O,
     err: &mut E,
 ) -> u8
-    requires lent { F.lent shelf.old < 2 ^ 16 }
-    requires making { F.making shelf.old ≡ None }
+    requires lent { (F.state shelf.old).lent < 2 ^ 16 }
+    requires making { (F.state shelf.old).making ≡ None }
 
     // The status is the verdict's, unless a fault or out of memory came first.
-    ensures status { IsStatus (told_verdict (F.holds shelf.old) words.now) result }
-    ensures usage { result ≡ 2 → command_in (bytes_of_words words.now) ≡ None }
-    ensures unread { command_in (bytes_of_words words.now) ≡ None → (result ≡ 2) ⊎ (result ≡ 7) }
+    ensures status { IsStatus (told_verdict (F.state shelf.old).holds words.now) result }
+    ensures usage { result ≡ 2 → meaning_in (bytes_of_words words.now) ≡ None }
+    ensures unread { meaning_in (bytes_of_words words.now) ≡ None → (result ≡ 2) ⊎ (result ≡ 7) }
     ensures unnamed { names_command (bytes_of_words words.now) ≡ false → result ≡ 2 }
     ensures known { result ≤ 7 }
 
     // At 0 the output is whole, at 2, 3 and 4 there is none, and at 5, 6 and 7 there is a prefix of it.
     ensures whole { result ≡ 0 →
-        PrintsWhole (told_output (F.holds shelf.old) words.now) (O.written out.old) (O.written out.new) }
+        PrintsWhole (told_output (F.state shelf.old).holds words.now) (O.written out.old) (O.written out.new) }
     ensures silent { 2 ≤ result → result ≤ 4 → O.written out.new ≡ O.written out.old }
-    ensures prefix { PrintsPrefix (told_output (F.holds shelf.old) words.now) (O.written out.old) (O.written out.new) }
+    ensures prefix { PrintsPrefix (told_output (F.state shelf.old).holds words.now) (O.written out.old) (O.written out.new) }
 
     // The line on the error stream is that of the status. A fault of that stream changes no status.
-    ensures said { SaysEnding (told_verdict (F.holds shelf.old) words.now) result
+    ensures said { SaysEnding (told_verdict (F.state shelf.old).holds words.now) result
         (Rose (E.faults err.old) (E.faults err.new)) (E.written err.old) (E.written err.new) }
     ensures quiet { result ≡ 0 → E.written err.new ≡ E.written err.old }
 
     // A fault has its cause. With no cause the status is the verdict's, or memory ran out.
-    ensures read_fault { result ≡ 5 →
-        Rose (F.faults shelf.old) (F.faults shelf.new)
-        ⊎ Rose (F.source_faults shelf.old) (F.source_faults shelf.new) }
+    ensures read_fault { result ≡ 5 → ReadsFailed (F.state shelf.old) (F.state shelf.new) }
     ensures write_fault { result ≡ 6 →
-        Rose (O.faults out.old) (O.faults out.new)
-        ⊎ Rose (F.sink_faults shelf.old) (F.sink_faults shelf.new) }
-    ensures complete { ¬ Rose (F.faults shelf.old) (F.faults shelf.new)
-        → ¬ Rose (F.source_faults shelf.old) (F.source_faults shelf.new)
-        → ¬ Rose (F.sink_faults shelf.old) (F.sink_faults shelf.new)
+        Rose (O.faults out.old) (O.faults out.new) ⊎ WritesFailed (F.state shelf.old) (F.state shelf.new) }
+    ensures complete { ¬ ReadsFailed (F.state shelf.old) (F.state shelf.new)
+        → ¬ WritesFailed (F.state shelf.old) (F.state shelf.new)
         → ¬ Rose (O.faults out.old) (O.faults out.new)
-        → IsStatusOrNoMemory (told_verdict (F.holds shelf.old) words.now) result }
+        → IsStatusOrNoMemory (told_verdict (F.state shelf.old).holds words.now) result }
 
     // At 0 the command's file was added to the files. At 6 a prefix of it may have been. Otherwise no file changed.
     ensures made { result ≡ 0 →
-        MakesFile (told_file (F.holds shelf.old) words.now) (F.holds shelf.old) (F.holds shelf.new) }
-    ensures left { LeavesFile (told_file (F.holds shelf.old) words.now) (F.holds shelf.old) (F.holds shelf.new) }
-    ensures unmade { result ≢ 0 → result ≢ 6 → F.holds shelf.new ≡ F.holds shelf.old }
+        MakesFile (told_file (F.state shelf.old).holds words.now) (F.state shelf.old).holds (F.state shelf.new).holds }
+    ensures left { LeavesFile (told_file (F.state shelf.old).holds words.now) (F.state shelf.old).holds (F.state shelf.new).holds }
+    ensures unmade { result ≢ 0 → result ≢ 6 → (F.state shelf.new).holds ≡ (F.state shelf.old).holds }
 
     // It opens and creates no other names than the command's, and hands all files back.
-    ensures opened { AppendsPrefix (F.opened shelf.old) (openings (bytes_of_words words.now)) (F.opened shelf.new) }
+    ensures opened { AppendsPrefix (F.state shelf.old).opened (openings words.now) (F.state shelf.new).opened }
     ensures all_opened { result ≡ 0 →
-        F.opened shelf.new ≡ appended (F.opened shelf.old) (openings (bytes_of_words words.now)) }
-    ensures lent { F.lent shelf.new ≡ F.lent shelf.old }
-    ensures making { F.making shelf.new ≡ F.making shelf.old }
+        (F.state shelf.new).opened ≡ appended (F.state shelf.old).opened (openings words.now) }
+    ensures lent { (F.state shelf.new).lent ≡ (F.state shelf.old).lent }
+    ensures making { (F.state shelf.new).making ≡ (F.state shelf.old).making }
 {
     let ending = run(alloc, words, shelf, out);
     report_ending(ending, err)

@@ -1,12 +1,12 @@
 //! Why a step of a command gives no value, and what the faults of lower crates come to.
 //! Used in this crate by all that loads or makes a file.
 ghost use Rattle.std.specs.Prelude.{◌≡◌};
-ghost use Rattle.search_run.specs.Stops.{stop_at_header, stop_at_cells, stop_at_query, stop_at_text, stop_at_opening, ending_of};
+ghost use Rattle.search_run.specs.Stops.{stop_at_header, stop_at_cells, stop_at_query, stop_at_text, stop_for_query, stop_for_text, stop_at_opening, ending_of};
 
 use array_file::HeaderFault;
-use array_text::TextFault;
+use array_text::{TextFault, TextRefusal};
 use chunk_store::CellsFault;
-use query_text::QueryFault;
+use query_text::{QueryFault, QueryRefusal};
 use report::{Ending, Failure, Refusal};
 use source_io::OpenFault;
 
@@ -63,14 +63,30 @@ impl From<CellsFault> for Stop {
     }
 }
 
+impl From<QueryRefusal> for Stop {
+    ghost from_gives = { λ refusal stop. stop ≡ stop_for_query refusal };
+
+    fn from(refusal: QueryRefusal) -> Stop {
+        Stop::Refused(Refusal::Query(refusal))
+    }
+}
+
 impl From<QueryFault> for Stop {
     ghost from_gives = { λ fault stop. stop ≡ stop_at_query fault };
 
     fn from(fault: QueryFault) -> Stop {
         match fault {
-            QueryFault::Refused(refusal) => Stop::Refused(Refusal::Query(refusal)),
+            QueryFault::Refused(refusal) => Stop::from(refusal),
             QueryFault::NoMemory => Stop::Failed(Failure::NoMemory),
         }
+    }
+}
+
+impl From<TextRefusal> for Stop {
+    ghost from_gives = { λ refusal stop. stop ≡ stop_for_text refusal };
+
+    fn from(refusal: TextRefusal) -> Stop {
+        Stop::Refused(Refusal::Text(refusal))
     }
 }
 
@@ -79,7 +95,7 @@ impl From<TextFault> for Stop {
 
     fn from(fault: TextFault) -> Stop {
         match fault {
-            TextFault::Refused(refusal) => Stop::Refused(Refusal::Text(refusal)),
+            TextFault::Refused(refusal) => Stop::from(refusal),
             TextFault::NoMemory => Stop::Failed(Failure::NoMemory),
         }
     }

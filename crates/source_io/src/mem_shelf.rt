@@ -33,14 +33,16 @@ pub struct MemShelf {
 impl MemShelf {
     /// A shelf of these files, each a name and its bytes. Of files with one name the first counts.
     pub fn new(alloc: Global, files: Vec<(String, Vec<u8>)>, plan: Plan) -> MemShelf
-        ensures holds { ⟦<MemShelf as Shelf>⟧.holds result ≡ Some (files_of files.items) }
-        ensures asked { ⟦<MemShelf as Shelf>⟧.asked result ≡ Some [] }
-        ensures opened { ⟦<MemShelf as Shelf>⟧.opened result ≡ Some [] }
-        ensures lent { ⟦<MemShelf as Shelf>⟧.lent result ≡ 0 }
-        ensures making { ⟦<MemShelf as Shelf>⟧.making result ≡ None }
-        ensures faults { ⟦<MemShelf as Shelf>⟧.faults result ≡ 0 }
-        ensures source_faults { ⟦<MemShelf as Shelf>⟧.source_faults result ≡ 0 }
-        ensures sink_faults { ⟦<MemShelf as Shelf>⟧.sink_faults result ≡ 0 }
+        ensures { ⟦<MemShelf as Shelf>⟧.state result ≡ record {
+          holds = Some (files_of files.items);
+          faults = 0;
+          source_faults = 0;
+          sink_faults = 0;
+          asked = Some [];
+          opened = Some [];
+          lent = 0;
+          making = None;
+        } }
     {
         MemShelf {
             alloc,
@@ -59,49 +61,49 @@ impl MemShelf {
     /// The bytes of the file that has the name. `None` where no file has it. A file that was created is
     /// there once it is finished.
     pub fn file(&self, name: &str) -> Option<&[u8]>
-        ensures { option_map (λ files. get files name.now) (⟦<MemShelf as Shelf>⟧.holds self.now) ≡ Some (option_copied result) }
+        ensures { option_map (λ files. get files name.now) (⟦<MemShelf as Shelf>⟧.state self.now).holds ≡ Some (option_copied result) }
     {
         find_file(self.files.as_slice(), name)
     }
 
     /// The names that were opened or created, in order, also those where it failed.
     pub fn opened(&self) -> &[String]
-        ensures { ⟦<MemShelf as Shelf>⟧.opened self.now ≡ Some (map string_bytes result.now) }
+        ensures { (⟦<MemShelf as Shelf>⟧.state self.now).opened ≡ Some (map string_bytes result.now) }
     {
         self.opened.as_slice()
     }
 
     /// The sources that came back, in that order. Each has its name and the record of its reads.
     pub fn returned(&self) -> &[MemSource]
-        ensures { ⟦<MemShelf as Shelf>⟧.asked self.now ≡ Some (flat_map reads_by result.now) }
+        ensures { (⟦<MemShelf as Shelf>⟧.state self.now).asked ≡ Some (flat_map reads_by result.now) }
     {
         self.returned.as_slice()
     }
 
     /// How many sources are open.
     pub fn lent(&self) -> usize
-        ensures { result ≡ ⟦<MemShelf as Shelf>⟧.lent self.now }
+        ensures { result ≡ (⟦<MemShelf as Shelf>⟧.state self.now).lent }
     {
         self.lent
     }
 
     /// How many openings and creatings failed. The count ends at `u64::MAX`.
     pub fn faults(&self) -> u64
-        ensures { result ≡ ⟦<MemShelf as Shelf>⟧.faults self.now }
+        ensures { result ≡ (⟦<MemShelf as Shelf>⟧.state self.now).faults }
     {
         self.faults
     }
 
     /// How many reads of the sources that came back failed. The count ends at `u64::MAX`.
     pub fn source_faults(&self) -> u64
-        ensures { result ≡ ⟦<MemShelf as Shelf>⟧.source_faults self.now }
+        ensures { result ≡ (⟦<MemShelf as Shelf>⟧.state self.now).source_faults }
     {
         self.source_faults
     }
 
     /// How many writes to the finished files failed. The count ends at `u64::MAX`.
     pub fn sink_faults(&self) -> u64
-        ensures { result ≡ ⟦<MemShelf as Shelf>⟧.sink_faults self.now }
+        ensures { result ≡ (⟦<MemShelf as Shelf>⟧.state self.now).sink_faults }
     {
         self.sink_faults
     }
@@ -124,21 +126,16 @@ impl Shelf for MemShelf {
 
     type Out = MemSink;
 
-    ghost holds = { λ shelf. Some (files_of shelf.files.items) };
-
-    ghost faults = { λ shelf. shelf.faults };
-
-    ghost source_faults = { λ shelf. shelf.source_faults };
-
-    ghost sink_faults = { λ shelf. shelf.sink_faults };
-
-    ghost asked = { λ shelf. Some (flat_map reads_by shelf.returned.items) };
-
-    ghost opened = { λ shelf. Some (map string_bytes shelf.opened.items) };
-
-    ghost lent = { λ shelf. shelf.lent };
-
-    ghost making = { λ shelf. option_map string_bytes shelf.making };
+    ghost state = { λ shelf. record {
+      holds = Some (files_of shelf.files.items);
+      faults = shelf.faults;
+      source_faults = shelf.source_faults;
+      sink_faults = shelf.sink_faults;
+      asked = Some (flat_map reads_by shelf.returned.items);
+      opened = Some (map string_bytes shelf.opened.items);
+      lent = shelf.lent;
+      making = option_map string_bytes shelf.making;
+    } };
 
     fn open(&mut self, name: &str) -> Result<MemSource, OpenFault> {
         if self.returned.reserve(self.lent + 1).is_err() || self.opened.reserve(1).is_err() {

@@ -33,8 +33,11 @@ impl MemSource {
         plan: &Plan,
         opening: u64,
     ) -> Result<MemSource, NoMemory>
-        ensures bytes { IfOk result (λ source. ⟦<MemSource as ByteSource>⟧.bytes source ≡ Some bytes.now) }
-        ensures name { IfOk result (λ source. ⟦<MemSource as ByteSource>⟧.opened_as source ≡ Some name.now) }
+        ensures file { IfOk result (λ source. ⟦<MemSource as ByteSource>⟧.file source ≡ record {
+          bytes = Some bytes.now;
+          len = length bytes.now;
+          name = Some name.now;
+        }) }
         ensures nothing_asked { IfOk result (λ source. ⟦<MemSource as ByteSource>⟧.asked source ≡ Some []) }
         ensures no_faults { IfOk result (λ source. ⟦<MemSource as ByteSource>⟧.faults source ≡ 0) }
     {
@@ -65,7 +68,7 @@ impl MemSource {
 
     /// The name that it was opened as.
     pub fn name(&self) -> &str
-        ensures { ⟦<MemSource as ByteSource>⟧.opened_as self.now ≡ Some result.now }
+        ensures { (⟦<MemSource as ByteSource>⟧.file self.now).name ≡ Some result.now }
     {
         self.name.as_str()
     }
@@ -86,13 +89,13 @@ impl MemSource {
 }
 
 impl ByteSource for MemSource {
-    ghost bytes = { λ source. Some source.bytes.items };
-
-    ghost len = { λ source. length source.bytes.items };
+    ghost file = { λ source. record {
+      bytes = Some source.bytes.items;
+      len = length source.bytes.items;
+      name = Some (string_bytes source.name);
+    } };
 
     ghost asked = { λ source. Some source.asked.items };
-
-    ghost opened_as = { λ source. Some (string_bytes source.name) };
 
     ghost faults = { λ source. source.faults };
 

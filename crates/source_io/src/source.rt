@@ -2,38 +2,33 @@
 ghost use Rattle.std.specs.Prelude.{◌≡◌, ℕ, ◌+◌, ◌<◌, ◌≤◌, ◌⊎◌, List, length, Option, IfOk, OnOk, OnErr};
 ghost use Rattle.source_io.specs.Told.{Rose, Fills, Holds, SizeIs};
 ghost use Rattle.source_io.specs.Asked.{Asks, AsksOne};
+ghost use Rattle.source_io.specs.Source.{StoredFile};
 
 use crate::Failed;
 
 /// A file that is read at any offset.
 pub trait ByteSource {
-    /// Its bytes, where they are told.
-    ghost bytes: { Self → Option (List ℕ) };
-
-    /// How many bytes it has, told or not.
-    ghost len: { Self → ℕ };
+    /// The file: its bytes, its length and its name. It never changes.
+    ghost file: { Self → StoredFile };
 
     /// The offset and the length of each recorded read, in order, where they are told.
     ghost asked: { Self → Option (List (ℕ × ℕ)) };
-
-    /// The name that it was opened as, where it is told.
-    ghost opened_as: { Self → Option (List ℕ) };
 
     /// How many reads failed.
     ghost faults: { Self → ℕ };
 
     /// The number of bytes. It never changes.
     fn size(&self) -> u64
-        ensures size { result ≡ len self.now }
-        ensures told { SizeIs (bytes self.now) result };
+        ensures size { result ≡ (file self.now).len }
+        ensures told { SizeIs (file self.now).bytes result };
 
     /// Reads bytes from an offset on to the beginning of `into`, at least one, and answers how many.
     /// `Failed` where the read failed. The source counts it, and `into` is unchanged.
     fn read_at(&mut self, offset: u64, into: &mut [u8]) -> Result<usize, Failed>
         requires some { 0 < length into.old }
-        requires within { offset + length into.old ≤ len self.old }
+        requires within { offset + length into.old ≤ (file self.old).len }
         ensures count { IfOk result (λ n. (0 < n) × (n ≤ length into.old)) }
-        ensures bytes { IfOk result (λ n. Fills (bytes self.old) offset n into.old into.new) }
+        ensures bytes { IfOk result (λ n. Fills (file self.old).bytes offset n into.old into.new) }
         ensures unchanged { OnErr result (into.new ≡ into.old) }
         ensures cause { OnErr result (Rose (faults self.old) (faults self.new)) }
         ensures faults { faults self.old ≤ faults self.new }
@@ -43,22 +38,18 @@ pub trait ByteSource {
         ensures failed { OnErr result (AsksOne (asked self.old) (asked self.new) (offset, length into.old) ⊎ (asked self.new ≡ asked self.old)) }
 
         // Reading changes nothing else.
-        ensures same_bytes { bytes self.new ≡ bytes self.old }
-        ensures same_len { len self.new ≡ len self.old }
-        ensures same_name { opened_as self.new ≡ opened_as self.old };
+        ensures same_file { file self.new ≡ file self.old };
 }
 
 /// Fills the whole of `into` with the bytes from an offset on, by as many reads as it takes. An empty `into`
 /// makes no read. `Failed` where one of them failed.
 pub fn read_whole<S: ByteSource>(src: &mut S, offset: u64, into: &mut [u8]) -> Result<(), Failed>
-    requires { offset + length into.old ≤ S.len src.old }
-    ensures bytes { OnOk result (Holds (S.bytes src.old) offset (length into.old) into.new) }
+    requires { offset + length into.old ≤ (S.file src.old).len }
+    ensures bytes { OnOk result (Holds (S.file src.old).bytes offset (length into.old) into.new) }
     ensures cause { OnErr result (Rose (S.faults src.old) (S.faults src.new)) }
     ensures faults { S.faults src.old ≤ S.faults src.new }
     ensures asked { Asks (S.asked src.old) (S.asked src.new) offset (offset + length into.old) }
-    ensures same_bytes { S.bytes src.new ≡ S.bytes src.old }
-    ensures same_len { S.len src.new ≡ S.len src.old }
-    ensures same_name { S.opened_as src.new ≡ S.opened_as src.old }
+    ensures same_file { S.file src.new ≡ S.file src.old }
 {
     let _size = src.size();
     let mut done = 0;

@@ -12,13 +12,9 @@ pub struct SureSource {
 }
 
 impl ByteSource for SureSource {
-    ghost bytes = { λ s. Some s.bytes.items };
-
-    ghost len = { λ s. length s.bytes.items };
+    ghost file = { λ s. record { bytes = Some s.bytes.items; len = length s.bytes.items; name = None } };
 
     ghost asked = { λ _. None };
-
-    ghost opened_as = { λ _. None };
 
     ghost faults = { λ _. 0 };
 

@@ -59,21 +59,16 @@ where
 
     type Out = WriterSink<R::File>;
 
-    ghost holds = { λ _. None };
-
-    ghost faults = { λ s. s.faults };
-
-    ghost source_faults = { λ s. s.source_faults };
-
-    ghost sink_faults = { λ s. s.sink_faults };
-
-    ghost asked = { λ _. None };
-
-    ghost opened = { λ _. None };
-
-    ghost lent = { λ s. s.lent };
-
-    ghost making = { λ s. option_map string_bytes s.making };
+    ghost state = { λ s. record {
+      holds = None;
+      faults = s.faults;
+      source_faults = s.source_faults;
+      sink_faults = s.sink_faults;
+      asked = None;
+      opened = None;
+      lent = s.lent;
+      making = option_map string_bytes s.making;
+    } };
 
     fn open(&mut self, name: &str) -> Result<FileSource<R::File>, OpenFault> {
         let Some((file, metadata)) = open_file(&self.rt, name) else {

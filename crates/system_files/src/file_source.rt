@@ -56,13 +56,9 @@ impl<F: FileExt> FileSource<F> {
 }
 
 impl<F: FileExt> ByteSource for FileSource<F> {
-    ghost bytes = { λ _. None };
-
-    ghost len = { λ s. s.size };
+    ghost file = { λ s. record { bytes = None; len = s.size; name = None } };
 
     ghost asked = { λ _. None };
-
-    ghost opened_as = { λ _. None };
 
     ghost faults = { λ s. s.faults };
 

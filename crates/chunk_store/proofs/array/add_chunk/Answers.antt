@@ -5,7 +5,7 @@ use Rattle.chunk_store.proofs.array.add_chunk.Goals as goal
 
 pub returns-clause-cells : goal.returns-clause-cells
 returns-clause-cells g c =
-    let told = g.S.ByteSource.bytes c.args.src.now in
+    let told = (g.S.ByteSource.file c.args.src.now).bytes in
     let layout = c.args.layout.now in
     let same : c.cells.result.now ≡ c.load.new.into.cells = c.cells.ensures in
     one_more_placed told layout c.args.n c.load.new.into.cells c.args.cells.now c.place_chunk.new.cells c.requires.rules c.in_ok-load.ensures.cells c.requires.cells

@@ -1,5 +1,6 @@
 use Rattle.std.proofs.Common.{◌≡◌, ◌+◌, ◌*◌, ◌-◌, length, take, drop, length-take, length-drop, arith, rules, subst}
 use Rattle.std.proofs.lemmas.Grind.{common_steps}
+use Rattle.source_io.specs.Source.{StoredFile}
 use Rattle.cells.specs.declared.cell.Cell.{Cell}
 use Rattle.chunk_store.specs.Loaded.{HoldsFrom}
 use Rattle.chunk_store.specs.Pieces.{AsksPieces}
@@ -14,9 +15,7 @@ loop-done-init g c =
       held = holds_none _ _;
       faults = omega arith;
       asked = asks_none _ _ _;
-      bytes = cc;
-      size = cc;
-      name = cc;
+      file = cc;
     }
 
 pub returns-in_err-read_piece-clause-asked : goal.returns-in_err-read_piece-clause-asked
@@ -33,7 +32,7 @@ loop-done-preserved g c =
     let m = c.min-n.result in
     let at = c.args.at in
     let long : length c.read_piece.new.cells ≡ m = omega (arith, c.read_piece.auto.cells, c.min-n.ensures, length-take {A = Cell}, length-drop {A = Cell}) in
-    let piece = subst (λ told. HoldsFrom told (at + 4 * n) c.read_piece.new.cells) before.bytes c.in_ok-read_piece.ensures.cells in
+    let piece = subst (λ (file : StoredFile). HoldsFrom file.bytes (at + 4 * n) c.read_piece.new.cells) before.file c.in_ok-read_piece.ensures.cells in
     let asked = asks_after _ _ _ _ _ _ (omega arith) (omega arith) before.asked c.read_piece.ensures.asked in
     let end : at + 4 * n + 4 * length (take (n + m - n) (drop n cells)) ≡ at + 4 * (n + m) = omega (arith, c.min-n.ensures, length-take {A = Cell}, length-drop {A = Cell}) in
     record {
@@ -41,7 +40,5 @@ loop-done-preserved g c =
       held = holds_more _ at n m _ cells c.read_piece.new.cells before.within long before.held piece;
       faults = omega (arith, before.faults, c.read_piece.ensures.faults);
       asked = subst (AsksPieces (s.asked c.args.src.now) (s.asked c.read_piece.new.src) at) end asked;
-      bytes = cc;
-      size = cc;
-      name = cc;
+      file = cc;
     }

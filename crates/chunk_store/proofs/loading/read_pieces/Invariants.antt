@@ -8,12 +8,10 @@ invariant-loop-done g l =
     let s = g.S.ByteSource in
     record {
       within : l.done ≤ length l.cells;
-      held : HoldsFrom (s.bytes l.fn.src) l.at (take l.done l.cells);
+      held : HoldsFrom (s.file l.fn.src).bytes l.at (take l.done l.cells);
       faults : s.faults l.fn.src ≤ s.faults l.src;
       asked : AsksPieces (s.asked l.fn.src) (s.asked l.src) l.at (l.at + 4 * l.done);
-      bytes : s.bytes l.src ≡ s.bytes l.fn.src;
-      size : s.len l.src ≡ s.len l.fn.src;
-      name : s.opened_as l.src ≡ s.opened_as l.fn.src;
+      file : s.file l.src ≡ s.file l.fn.src;
     }
 
 abbrev pub decreases-loop-done : goal.decreases-loop-done

@@ -5,15 +5,15 @@ use Rattle.chunk_store.proofs.summary.add_record.Goals as goal
 
 pub merge-requires-clause-few : goal.merge-requires-clause-few
 merge-requires-clause-few g c =
-    counts_fit (g.S.ByteSource.bytes c.args.src.now) c.args.layout.now c.args.n c.args.all c.chunk_record-one.result c.requires.rules c.requires.all c.chunk_record-one.ensures.few
+    counts_fit (g.S.ByteSource.file c.args.src.now).bytes c.args.layout.now c.args.n c.args.all c.chunk_record-one.result c.requires.rules c.requires.all c.chunk_record-one.ensures.few
 
 pub merge-requires-clause-sum : goal.merge-requires-clause-sum
 merge-requires-clause-sum g c =
-    sums_fit (g.S.ByteSource.bytes c.args.src.now) c.args.layout.now c.args.n c.args.all c.chunk_record-one.result c.requires.rules c.requires.all c.chunk_record-one.ensures.few c.chunk_record-one.ensures.each
+    sums_fit (g.S.ByteSource.file c.args.src.now).bytes c.args.layout.now c.args.n c.args.all c.chunk_record-one.result c.requires.rules c.requires.all c.chunk_record-one.ensures.few c.chunk_record-one.ensures.each
 
 pub returns-clause-all : goal.returns-clause-all
 returns-clause-all g c =
-    let told = g.S.ByteSource.bytes c.args.src.now in
+    let told = (g.S.ByteSource.file c.args.src.now).bytes in
     let layout = c.args.layout.now in
     let same : c.cells.result.now ≡ c.load.new.into.cells = c.cells.ensures in
     one_more_summed told layout c.args.n c.cells.result.now c.args.all c.chunk_record-one.result c.merge.result c.requires.rules

@@ -8,12 +8,10 @@ invariant-loop-done g l =
     let s = g.S.ByteSource in
     record {
       within : l.done ≤ length l.into;
-      held : Holds (s.bytes l.fn.src) l.offset l.done (take l.done l.into);
+      held : Holds (s.file l.fn.src).bytes l.offset l.done (take l.done l.into);
       faults : s.faults l.fn.src ≤ s.faults l.src;
       asked : AsksBelow (s.asked l.fn.src) (s.asked l.src) l.offset (l.offset + l.done) (l.offset + length l.fn.into);
-      bytes : s.bytes l.src ≡ s.bytes l.fn.src;
-      size : s.len l.src ≡ s.len l.fn.src;
-      name : s.opened_as l.src ≡ s.opened_as l.fn.src;
+      file : s.file l.src ≡ s.file l.fn.src;
     }
 
 abbrev pub decreases-loop-done : goal.decreases-loop-done
