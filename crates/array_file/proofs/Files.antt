@@ -95,7 +95,7 @@ regrouped a b c d e rest =
     ap (λ x. a ++ (b ++ x)) (append_assoc c (d ++ e) rest ∙ ap (λ x. c ++ x) (append_assoc d e rest))
     ∙ ap (λ x. a ++ x) (sym (append_assoc b c (d ++ (e ++ rest)))) ∙ sym (append_assoc a (b ++ c) (d ++ (e ++ rest)))
 
--- the bytes around those of the cell at place p of chunk n
+-- the file as the bytes before the cell at place p of chunk n, its bytes, and the bytes after it
 around_cell : (l : LayoutNumbers) (cells : List Cell) (n p : ℕ) (d : Cell) → n < chunk_count l → p < chunk_cells l
     → (back : List ℕ) × (array_bytes l cells
     ≡ (header_of l ++ (bytes_of_chunks l cells n ++ bytes_of_cells (take p (chunk_of_cells l cells n)))) ++ (bytes_of_cell (get_or (chunk_of_cells l cells n) p d) ++ back))
@@ -112,7 +112,7 @@ around_cell l cells n p d here inside =
           ∙ regrouped (header_of l) (bytes_of_chunks l cells n) first cell later chunks.0,
     )
 
--- they begin where the cell stands
+-- the bytes of the cell begin at its offset
 length-before_cell : (l : LayoutNumbers) (cells : List Cell) (n p : ℕ) → IsLayout l → p < chunk_cells l
     → length (header_of l ++ (bytes_of_chunks l cells n ++ bytes_of_cells (take p (chunk_of_cells l cells n)))) ≡ chunk_start l n + 4 * p
 length-before_cell l cells n p is inside =
@@ -130,7 +130,7 @@ abbrev TakesCells : Type 0
 TakesCells = (l : LayoutNumbers) (cells : List Cell) (k : ℕ) (d : Cell) → IsLayout l → length cells ≡ product l.extents → k < product l.extents
     → get_or (chunk_of_cells l cells (cell_chunk l k)) (cell_index l k) d ≡ get_or cells k d
 
--- the k-th cell stands at its place
+-- the k-th cell is at its place
 cell_at-array_bytes : TakesCells → (l : LayoutNumbers) (cells : List Cell) (k : ℕ) (d : Cell) → IsLayout l → length cells ≡ product l.extents → All (λ c. FitsSigned w32 c.0) cells
     → k < product l.extents → get_or cells k d ≡ cell_at (array_bytes l cells) (cell_start l k)
 cell_at-array_bytes takes l cells k d is long fits inside =

@@ -101,7 +101,7 @@ length_rule header size = (size == file_size (stored_layout header), WrongLength
 abbrev in_file : List (Rule LayoutRefusal) → List (Rule FileRefusal)
 in_file rules = map (λ r. (r.0, Layout r.1)) rules
 
--- the rules after that of the version, after that of the magic word, and after that of the header's length
+-- the rules after the version's, after the magic word's, and after the rule of the header's length
 abbrev later_rules : List ℕ → ℕ → List (Rule FileRefusal)
 later_rules header size = in_file (layout_rules (stored_layout header)) ++ length_rule header size ∷ []
 

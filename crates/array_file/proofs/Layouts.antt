@@ -54,12 +54,12 @@ spelled_is l h =
 
 -- ---- what its rules say of a number
 
--- an extent of the array or of a chunk is few at most, or 1
+-- an extent of the array or of a chunk is at most `most`, or it is 1
 few_or_one : (used : Bool) (most n : ℕ) → (if used then is_between 1 most n else n == 1) ≡ true → n ≤ most + 1
 few_or_one true most n e = let few = leb-true n most (and_parts (nat_le 1 n) (nat_le n most) e).1 in omega arith
 few_or_one false most n e = let one = eqb-true n 1 e in omega arith
 
--- a block's extent is few at most, or 1, or 0
+-- a block's extent is at most 2^20, or it is 1 or 0
 few_or_none : (level used nests : Bool) (n : ℕ) → (if level then if used then is_between 1 1048576 n && nests else n == 1 else n == 0) ≡ true → n ≤ 1048577
 few_or_none true true nests n e = few_or_one true 1048576 n (and_parts (is_between 1 1048576 n) nests e).0
 few_or_none true false nests n e = few_or_one false 1048576 n e

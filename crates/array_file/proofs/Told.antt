@@ -1,4 +1,4 @@
--- What was read of a file, where its bytes are told. Used by `read_header`.
+-- What was read of a file, if its bytes are told. Used by `read_header`.
 use Rattle.std.proofs.Common.{◌≡◌, ℕ, List, length, take, min, sym, Option, Some, None, Result, Ok, Err, is_err, false, OnOk, ap, ◌∙◌, subst}
 use Rattle.std.proofs.lemmas.List.{take_min}
 use Rattle.source_io.specs.Told.{Holds, SizeIs}

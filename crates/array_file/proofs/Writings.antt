@@ -114,7 +114,7 @@ pub bytes_of_chunks-more : (l : LayoutNumbers) (cells : List Cell) (n : ℕ) →
 bytes_of_chunks-more l cells n =
     bytes_of_chunks-add l cells n 1 ∙ ap (λ b. bytes_of_chunks l cells n ++ b) (append-nil (bytes_of_cells (chunk_of_cells l cells n)))
 
--- one chunk more of those of which n were written
+-- one more chunk, after n that were written
 pub chunks_more : (old mid new : Option (List ℕ)) (l : LayoutNumbers) (cells chunk : List Cell) (n : ℕ) → chunk ≡ chunk_of_cells l cells n
     → mid ≡ appended old (bytes_of_chunks l cells n) → new ≡ appended mid (bytes_of_cells chunk) → new ≡ appended old (bytes_of_chunks l cells (n + 1))
 chunks_more old mid new l cells chunk n is before wrote =

@@ -58,7 +58,7 @@ header_of l = magic_word ++ flat_map (little_bytes 4) (layout_numbers l)
 abbrev pub file_size : LayoutNumbers → ℕ
 file_size l = 96 + 4 * chunk_cells l * chunk_count l
 
--- the rules of a file with this header, which is all of a shorter file, and this size in bytes
+-- the rules of a file with this header and this size in bytes. The header of a file that is too short is the whole file
 abbrev pub file_rules : List ℕ → ℕ → List (Rule FileRefusal)
 file_rules header size =
     (nat_le 96 size, Short size) ∷ []

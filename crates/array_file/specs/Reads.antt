@@ -13,7 +13,7 @@ Reads bytes (Ok l) = (refusal_of bytes ≡ None) × (l ≡ stored_layout (take 9
 Reads bytes (Err (Refused r)) = refusal_of bytes ≡ Some r
 Reads bytes (Err Read) = Unit {0}
 
--- the same, where the bytes are told
+-- the same, if the bytes are told
 abbrev pub ReadsHeader : Option (List ℕ) → Result Layout HeaderFault → Type 0
 ReadsHeader None r = Unit {0}
 ReadsHeader (Some bytes) r = Reads bytes r

@@ -18,11 +18,11 @@ use Rattle.array_file.specs.Header.{layout_refusal, stored_layout}
 unfoldable pub cell_at : List ℕ → ℕ → Cell
 cell_at bytes at = record { 0 = cast_signed w32 (little_number 4 (drop at bytes)) }
 
--- where a chunk begins
+-- the offset at which a chunk begins
 abbrev pub chunk_start : LayoutNumbers → ℕ → ℕ
 chunk_start l n = 96 + 4 * chunk_cells l * n
 
--- where the k-th cell stands
+-- the offset of the k-th cell
 abbrev pub cell_start : LayoutNumbers → ℕ → ℕ
 cell_start l k = chunk_start l (cell_chunk l k) + 4 * cell_index l k
 
@@ -30,7 +30,7 @@ cell_start l k = chunk_start l (cell_chunk l k) + 4 * cell_index l k
 abbrev pub stored_cells : LayoutNumbers → List ℕ → List (Option ℤ)
 stored_cells l bytes = map (λ k. cell_value (cell_at bytes (cell_start l k))) (range_with_len 0 (product l.extents))
 
--- these are the cells of the file, where its bytes are told
+-- these are the cells of the file, if its bytes are told
 abbrev pub HoldsCells : Option (List ℕ) → LayoutNumbers → List Cell → Type 0
 HoldsCells None l cells = length cells ≡ product l.extents
 HoldsCells (Some bytes) l cells = map cell_value cells ≡ stored_cells l bytes
@@ -39,11 +39,11 @@ HoldsCells (Some bytes) l cells = map cell_value cells ≡ stored_cells l bytes
 abbrev pub refusal_of : List ℕ → Option FileRefusal
 refusal_of bytes = layout_refusal (take 96 bytes) (length bytes)
 
--- the array that a file with these bytes holds, where it is not refused
+-- the array that a file with these bytes holds, if it is not refused
 abbrev pub stored_array : List ℕ → Array
 stored_array bytes = let l = stored_layout (take 96 bytes) in record { rank = l.rank; extents = l.extents; cells = stored_cells l bytes }
 
--- with the layout that the file's header states, these cells are the array that the file holds, where its bytes are told
+-- if the layout is the one that the file's header states, these cells are the array that the file holds, if its bytes are told
 abbrev pub MakesArray : Option (List ℕ) → LayoutNumbers → List Cell → Type 0
 MakesArray None l cells = Unit {0}
 MakesArray (Some bytes) l cells = l ≡ stored_layout (take 96 bytes) → array_of l.rank l.extents cells ≡ stored_array bytes

@@ -68,9 +68,9 @@ fn layout_from(numbers: &[u32; 21]) -> Result<Layout, LayoutRefusal>
     })
 }
 
-/// The layout that a file's header states, exactly where the file keeps every rule; else the refusal of
-/// the first rule that it breaks. `bytes` is the first 96 bytes, or all of a shorter file, and `size` is
-/// how many the file has.
+/// The layout that a file's header states, exactly if the file keeps every rule. Otherwise the refusal of the first
+/// rule that it breaks. `bytes` has the first 96 bytes, or all bytes of a shorter file. `size` is the size of the file
+/// in bytes.
 pub fn read_layout(bytes: &[u8], size: u64) -> Result<Layout, FileRefusal>
     requires { length bytes.now ≡ min 96 size }
     ensures exactly { MatchResult result
@@ -103,8 +103,8 @@ pub fn read_layout(bytes: &[u8], size: u64) -> Result<Layout, FileRefusal>
     Ok(layout)
 }
 
-/// Reads the layout of a file from its header, which is its first 96 bytes, or all of a shorter file.
-/// `Refused` exactly by the rules of `read_layout`; `Read` where the source counted a fault.
+/// Reads the layout of a file from its header: its first 96 bytes, or all bytes of a shorter file. `Refused` exactly by
+/// the rules of `read_layout`. `Read` only if the source counted a fault.
 pub fn read_header<S: ByteSource>(src: &mut S) -> Result<Layout, HeaderFault>
     ensures read { ReadsHeader (S.file src.old).bytes result }
     ensures size { IfOk result (λ l. parts.file_size l ≡ (S.file src.old).len) }

@@ -1,6 +1,6 @@
 //! The array file: a header of 96 bytes, and after it the chunks of cells.
 //! It says exactly which files are refused and why, reads and writes headers, writes whole files, and says at which
-//! offset each chunk begins. A fault comes only where the source or the sink counted one.
+//! offset each chunk begins. A fault comes only if the source or the sink counted one.
 //!
 //! Definitions: `specs/Header` (the header of a layout, the layout that a header states, and the first rule
 //! that a file breaks), `specs/Stored` (the offsets of cells, and the array that a file holds), `specs/Written` (the

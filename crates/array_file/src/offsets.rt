@@ -10,7 +10,7 @@ use layouts::Layout;
 /// The size of the header, in bytes.
 pub const HEADER_BYTES: usize = 96;
 
-/// How many bytes a file of this layout has: its header and its chunks, each at full size.
+/// The size in bytes of a file of this layout: its header and its chunks, each at full size.
 pub fn file_size(layout: &Layout) -> u64
     ensures { result ≡ header.file_size layout.now }
 {

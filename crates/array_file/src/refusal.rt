@@ -9,10 +9,10 @@ pub enum FileRefusal {
     Short { size: u64 },
     /// The file does not begin with the magic word.
     Magic,
-    /// The version is another one.
+    /// The version is not 1.
     Version { n: u32 },
     /// The numbers in the header break a rule of layouts.
     Layout(LayoutRefusal),
-    /// The size is not that of the header and the chunks, in bytes.
+    /// The size in bytes is not the one that the header states.
     WrongLength { stated: u64, found: u64 },
 }

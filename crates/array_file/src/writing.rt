@@ -1,4 +1,4 @@
-//! Writing whole array files. The command `pack` does.
+//! Writing whole array files, for the command `pack`.
 //! Used by `search_run`.
 ghost use Rattle.std.specs.Prelude.{◌≡◌, ◌+◌, ◌*◌, ◌≤◌, length, OnErr};
 ghost use Rattle.source_io.specs.Told.{Rose};
@@ -68,8 +68,8 @@ fn write_cells<K: Sink>(
     Ok(())
 }
 
-/// Writes the chunks of an array with these cells, in order. `room` is for the cells of a chunk, and `bytes` for
-/// the bytes of a piece.
+/// Writes the chunks of an array with these cells, in order. `room` holds the cells of one chunk, and `bytes` the bytes
+/// of one piece.
 fn write_each<K: Sink>(
     layout: &Layout,
     cells: &[Cell],
@@ -102,9 +102,9 @@ fn write_chunks<K: Sink>(layout: &Layout, cells: &[Cell], sink: &mut K) -> Resul
     write_each(layout, cells, &mut room, &mut bytes, sink)
 }
 
-/// Writes the array file of a layout and its cells, which are in row-major order. A chunk that extends past the
-/// end of the array has empty cells there. It takes no memory.
-/// `Failed` where the sink counted a fault. A prefix of the file was then written.
+/// Writes the array file of a layout and its cells, which are in row-major order. A chunk that extends past the edge of
+/// the array has empty cells there. It takes no memory. `Failed` only if the sink counted a fault. Then a prefix of the
+/// file was written.
 pub fn write_array<K: Sink>(layout: &Layout, cells: &[Cell], sink: &mut K) -> Result<(), Failed>
     requires { length cells.now ≡ product layout.now.extents }
     ensures written { Writes result (array_bytes layout.now cells.now) (K.written sink.old) (K.written sink.new) }

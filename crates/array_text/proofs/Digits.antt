@@ -10,7 +10,7 @@ use Rattle.array_text.specs.Numbers.{digit_of, digits_from, number_written}
 use Rattle.array_text.specs.Words.{is_blank, first_word}
 use Rattle.array_text.proofs.Fronts.{first_word-blank, first_word-more}
 
--- behind the last digit stands the number
+-- after the last digit, the number is known
 pub digits_from-end : (bs : List ℕ) (i v : ℕ) → i < length bs → is_blank (get_or bs i 0) ≡ true → digits_from v (first_word (drop i bs)) ≡ Some v
 unfolding digits_from
 digits_from-end bs i v h blank = ap (digits_from v) (first_word-blank bs i h blank)
@@ -41,7 +41,7 @@ same_cond : (p : Bool) (x : Option ℕ) → cond p x x ≡ x
 same_cond true x = refl
 same_cond false x = refl
 
--- where the digits write nothing, the word writes no number
+-- if the digits write nothing, the word writes no number
 pub number_written-other : (w : List ℕ) → digits_from 0 w ≡ None → number_written w ≡ None
 unfolding number_written
 number_written-other w none = ap (λ n. cond (nat_le 1 (length w) && nat_le (length w) 10) n None) none ∙ same_cond (nat_le 1 (length w) && nat_le (length w) 10) None
@@ -53,7 +53,7 @@ number_written-long w long =
     ap (λ p. cond (nat_le 1 (length w) && p) (digits_from 0 w) None) (lt-leb (length w) 10 long)
     ∙ ap (λ p. cond p (digits_from 0 w) None) (and-false (nat_le 1 (length w)))
 
--- so many digits write no more
+-- after so many digits, the word writes no number
 pub digits_fit : (v d i : ℕ) → v < 10 ^ i → d < 10 → 10 * v + d < 10 ^ (i + 1)
 digits_fit v d i below digit =
     let next : 10 ^ (i + 1) ≡ 10 * 10 ^ i = ap (λ k. 10 ^ k) (omega arith) ∙ pow-succ' 10 i in

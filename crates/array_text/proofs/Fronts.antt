@@ -1,4 +1,4 @@
--- The words of bytes, from the front.
+-- The first word of bytes, and the words after it.
 -- Used by the proofs of `Digits`, `WordLaws`, `a_blank_adds_no_word`, `leading_digits` and others.
 use Rattle.std.proofs.Common.{◌≡◌, ℕ, suc, ◌+◌, ◌-◌, ◌<◌, Bool, true, false, cond, List, [], ◌∷◌, length, get_or, take, drop, filter, refl, ap, ◌∙◌, sym, arith, length-drop}
 use Rattle.std.proofs.lemmas.List.{take_all}
@@ -6,11 +6,11 @@ use Rattle.std.specs.List.{slice_split, onto_first}
 use Rattle.std.proofs.Math.Seq.{drop-cons, drop-length}
 use Rattle.array_text.specs.Words.{is_blank, is_some_word, words, first_word, behind_word, words_at}
 
--- what stands from a place on
+-- the bytes from a place on
 pub drop_at : (bs : List ℕ) (i : ℕ) → i < length bs → drop i bs ≡ get_or bs i 0 ∷ drop (i + 1) bs
 drop_at bs i h = let e : suc i ≡ i + 1 = omega arith in drop-cons bs i 0 h ∙ ap (λ k. get_or bs i 0 ∷ drop k bs) e
 
--- all that stands from a place on
+-- all bytes from a place on
 pub take-rest : (bs : List ℕ) (i : ℕ) → take (length bs - i) (drop i bs) ≡ drop i bs
 take-rest bs i = take_all (length bs - i) (drop i bs) (omega (arith, length-drop i bs))
 
@@ -36,12 +36,12 @@ behind_word-more bs i h blank =
 
 -- ---- words
 
--- a blank in front changes no words
+-- a blank at the beginning changes no words
 pub words-blank : (b : ℕ) (bs : List ℕ) → is_blank b ≡ true → words (b ∷ bs) ≡ words bs
 unfolding words
 words-blank b bs blank = ap (λ p. filter is_some_word (cond p ([] ∷ slice_split is_blank bs) (onto_first b (slice_split is_blank bs)))) blank
 
--- the pieces behind the first one
+-- the pieces after the first one
 abbrev later : List ℕ → List (List ℕ)
 later [] = []
 later (b ∷ bs) = cond (is_blank b) (slice_split is_blank bs) (later bs)
@@ -62,7 +62,7 @@ unfolding words
 later_here b bs true blank rest = sym (words-blank b bs blank)
 later_here b bs false blank rest = rest
 
--- they are the words behind the first one
+-- they are the words after the first one
 later_words : (bs : List ℕ) → filter is_some_word (later bs) ≡ words (behind_word bs)
 unfolding words
 later_words [] = refl

@@ -55,7 +55,7 @@ pub behind_word-none : (bs : List ℕ) → length bs ≡ 0 → behind_word bs �
 behind_word-none [] none = refl
 behind_word-none (b ∷ bs) none = absurd (omega arith)
 
--- where the word ends behind the point, it is that of the empty cell
+-- if the word ends after the point, it is the empty cell
 pub leading-empty : (bs : List ℕ) → first_word bs ≡ [] → behind_word bs ≡ bs → Some (empty_cell, bs) ≡ leading cell_of (46 ∷ bs)
 unfolding cell_of
 leading-empty bs first behind = ap (λ b. Some (empty_cell, b)) (sym behind) ∙ leading-some cell_of (46 ∷ bs) empty_cell (ap (λ w. cell_of (46 ∷ w)) first)
@@ -71,7 +71,7 @@ point_and_more : (b : ℕ) (w : List ℕ) → cell_of (46 ∷ b ∷ w) ≡ None
 unfolding cell_of
 point_and_more b w = positive_cell-none (46 ∷ b ∷ w) (number_written-other (46 ∷ b ∷ w) (no_digit (b ∷ w)))
 
--- where it goes on, it is no cell
+-- if it goes on, it is not a cell
 pub leading-point : (b : ℕ) (bs rest : List ℕ) → rest ≡ b ∷ bs → is_blank b ≡ false → None ≡ leading cell_of (46 ∷ rest)
 leading-point b bs rest is blank =
     let first : first_word rest ≡ b ∷ first_word bs = ap first_word is ∙ ap (λ p. cond p [] (b ∷ first_word bs)) blank in

@@ -22,7 +22,7 @@ digits_from-one : (m e : ℕ) → e < 10 → digits_from m ((48 + e) ∷ []) ≡
 unfolding digits_from
 digits_from-one m e below = ap (option_and_then (λ d. Some (10 * m + d))) (digit_of-digit e below)
 
--- a digit behind others
+-- a digit after others
 then_digit : (f g : ℕ → Option ℕ) (o : Option ℕ) (v n : ℕ) → ((d : ℕ) → f d ≡ Some v → g d ≡ Some n) → option_and_then f o ≡ Some v → option_and_then g o ≡ Some n
 then_digit f g None v n more e = cc
 then_digit f g (Some d) v n more e = more d e

@@ -4,11 +4,11 @@ use Rattle.std.specs.Prelude.{ℕ, ◌+◌, ◌-◌, ◌*◌, ◌==◌, ◌&&◌
 use Rattle.cells.specs.Cells.{empty_cell}
 use Rattle.cells.specs.declared.cell.Cell.{Cell}
 
--- what a digit counts
+-- the value of a digit
 abbrev pub digit_of : ℕ → Option ℕ
 digit_of b = if nat_le 48 b && nat_le b 57 then Some (b - 48) else None
 
--- the number that digits write behind this one; none where a byte is no digit
+-- the number that digits write after the digits of n; `None` if a byte is not a digit
 unfoldable pub digits_from : ℕ → List ℕ → Option ℕ
 digits_from n [] = Some n
 digits_from n (b ∷ bs) = option_and_then (λ d. digits_from (10 * n + d) bs) (digit_of b)
@@ -21,7 +21,7 @@ number_written w = if nat_le 1 (length w) && nat_le (length w) 10 then digits_fr
 abbrev pub up_to : ℕ → ℕ → Option ℕ
 up_to most n = if nat_le n most then Some n else None
 
--- the number that a word writes, where it is not above the most
+-- the number that a word writes, if it is at most the greatest allowed
 abbrev pub number_up_to : ℕ → List ℕ → Option ℕ
 number_up_to most w = option_and_then (up_to most) (number_written w)
 
@@ -45,7 +45,7 @@ positive_cell w = option_map (λ n. stored (pos n)) (cell_number w)
 abbrev pub negative_cell : List ℕ → Option Cell
 negative_cell w = option_map (λ n. stored (neg_ℤ (pos n))) (cell_number w)
 
--- the cell whose number a word writes, with `-` before it where it is below 0
+-- the cell whose number a word writes, with `-` before it if it is below 0
 abbrev pub number_cell : List ℕ → Option Cell
 number_cell [] = None
 number_cell (b ∷ bs) = if b == 45 then negative_cell bs else positive_cell (b ∷ bs)

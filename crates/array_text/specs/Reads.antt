@@ -1,4 +1,4 @@
--- What reading answers: what the walk gives, or want of memory.
+-- What reading answers: what the walk gives, or out of memory.
 -- Used in this crate alone.
 use Rattle.std.specs.Prelude.{◌≡◌, ℕ, List, Option, Result, Ok, Err, option_map, ⊤}
 use Rattle.array_text.specs.declared.fault.TextFault.{TextFault}
@@ -7,21 +7,21 @@ use Rattle.array_text.specs.declared.fault.TextRefusal.{TextRefusal}
 use Rattle.array_text.specs.Walk.{Walked, Rest}
 use Rattle.array_text.specs.Words.{words, first_word, behind_word}
 
--- a value is seen as the one that the walk gives, or the walk refuses so, or memory ran out
+-- a value is seen as the one that the walk gives, or it is the walk's refusal, or memory ran out
 abbrev pub Gives : {T X : Type 0} → (T → X) → Walked X → Result T TextFault → Type 0
 Gives seen walked (Ok x) = walked ≡ Ok (seen x)
 Gives seen walked (Err (Refused r)) = walked ≡ Err r
 Gives seen walked (Err NoMemory) = ⊤
 
--- the same where no memory is taken
+-- the same if no memory is taken
 abbrev pub Shows : {T X : Type 0} → (T → X) → Walked X → Result T TextRefusal → Type 0
 Shows seen walked (Ok x) = walked ≡ Ok (seen x)
 Shows seen walked (Err r) = walked ≡ Err r
 
--- what is left of a text whose next word has this number
+-- the rest of a text, whose next word has this number
 abbrev pub rest_of : ℕ → List ℕ → Rest
 rest_of next bytes = record { next = next; words = words bytes }
 
--- the first word as a form reads it, and the bytes behind it
+-- what a form reads in the first word, and the bytes after it
 abbrev pub leading : {X : Type 0} → (List ℕ → Option X) → List ℕ → Option (X × List ℕ)
 leading form bytes = option_map (λ x. (x, behind_word bytes)) (form (first_word bytes))

@@ -1,4 +1,4 @@
--- The walk over the words of a text, in order, each step giving what it read or the refusal that ends the walk.
+-- The walk over the words of a text, in order. Each step gives what it read, or the refusal that ends the walk.
 -- Used by `search_run`, and in this crate.
 use Rattle.std.specs.Prelude.{ℕ, ◌+◌, ◌^◌, zero, suc, nat_lt, Bool, true, false, List, [], ◌∷◌, ◌++◌, length, replicate, Option, Some, None, Result, Ok, Err, if◌then◌else◌, bytes_eq, codes, slice_set, ⊤}
 use Rattle.std.specs.Option.{option_map_or}
@@ -26,17 +26,17 @@ abbrev pub ◌>>=◌ : {X Y : Type 0} → Walked X → (X → Walked Y) → Walk
 (Ok x) >>= next = next x
 (Err r) >>= next = Err r
 
--- what is left of a text: the number of the next word, from 1, and the words from it on
+-- the rest of a text: the number of the next word, from 1, and the words from it on
 pub record Rest : Type 0 where
   pub next : ℕ
   pub words : List (List ℕ)
 
--- the next word, if its place allows it, and what is left behind it
+-- the next word, if it is allowed at its position, and the rest after it
 abbrev pub taken : {X : Type 0} → ℕ → List (List ℕ) → Option X → Walked (X × Rest)
 taken n ws None = Err (Word n)
 taken n ws (Some x) = Ok (x, record { next = n + 1; words = ws })
 
--- what the next word is, where its place allows words of this form
+-- what the next word is, if words of this form are allowed there
 abbrev pub word_from : {X : Type 0} → (List ℕ → Option X) → ℕ → List (List ℕ) → Walked (X × Rest)
 word_from form n [] = Err (Missing n)
 word_from form n (w ∷ ws) = taken n ws (form w)
@@ -50,7 +50,7 @@ word form rest = word_from form rest.next rest.words
 abbrev pub this_word : List ℕ → List ℕ → Option ⊤
 this_word expected w = if bytes_eq w expected then Some tt else None
 
--- the number of a dimension: the next word in one that is used, and else 1
+-- the number of a dimension: the next word if the dimension is used, and otherwise 1
 abbrev pub dimension : ℕ → ℕ → Rest → Walked (ℕ × Rest)
 dimension rank d rest = if nat_lt d rank then word layout_number rest else Ok (1, rest)
 
@@ -62,7 +62,7 @@ dimensions rank rest =
     dimension rank 2 rest >>= (λ (k, rest).
     Ok (n ∷ m ∷ k ∷ [], rest))))
 
--- this word, and behind it the numbers of the dimensions
+-- this word, and then the numbers of the dimensions
 unfoldable pub lengths : List ℕ → ℕ → Rest → Walked (List ℕ × Rest)
 lengths name rank rest = word (this_word name) rest >>= (λ (_, rest). dimensions rank rest)
 
@@ -70,13 +70,13 @@ lengths name rank rest = word (this_word name) rest >>= (λ (_, rest). dimension
 abbrev pub level_or_cells : List ℕ → Option Bool
 level_or_cells w = if bytes_eq w (codes "level") then Some true else if bytes_eq w (codes "cells") then Some false else None
 
--- the blocks of the level that follows; none where the word `cells` does
+-- the blocks of the level that follows; `None` if the word `cells` follows
 unfoldable pub next_level : ℕ → Rest → Walked (Option (List ℕ) × Rest)
 next_level rank rest =
     word level_or_cells rest >>= (λ (is_level, rest).
     if is_level then dimensions rank rest >>= (λ (block, rest). Ok (Some block, rest)) else Ok (None, rest))
 
--- up to so many levels more, behind n levels that were read into these blocks, and the word `cells`
+-- at most so many more levels, after n levels that were read into these blocks, and the word `cells`
 unfoldable pub levels_from : ℕ → ℕ → ℕ → List (List ℕ) → Rest → Walked ((ℕ × List (List ℕ)) × Rest)
 levels_from rank zero n blocks rest = word (this_word (codes "cells")) rest >>= (λ (_, rest). Ok ((n, blocks), rest))
 levels_from rank (suc more) n blocks rest =
@@ -114,7 +114,7 @@ unless_broken (Some r) = Err (Layout r)
 
 -- ---- the cells, and the end
 
--- so many cells, behind those that were read before
+-- so many cells, after those that were read before
 unfoldable pub cells_from : ℕ → List Cell → Rest → Walked (List Cell × Rest)
 cells_from zero before rest = Ok (before, rest)
 cells_from (suc more) before rest = word cell_of rest >>= (λ (cell, rest). cells_from more (before ++ cell ∷ []) rest)
@@ -124,7 +124,7 @@ abbrev pub end_from : ℕ → List (List ℕ) → Walked ⊤
 end_from n [] = Ok tt
 end_from n (w ∷ ws) = Err (Extra n)
 
--- a layout's cells, and nothing behind them
+-- the cells of a layout, and nothing after them
 unfoldable pub array_from : LayoutNumbers → Rest → Walked (LayoutNumbers × List Cell)
 array_from layout rest =
     unless_broken (first_broken (layout_rules layout)) >>= (λ _.
@@ -138,6 +138,6 @@ array_from layout rest =
 unfoldable pub read_words : List (List ℕ) → Walked (LayoutNumbers × List Cell)
 read_words ws = layout_from (record { next = 1; words = ws }) >>= (λ (layout, rest). array_from layout rest)
 
--- the layout and the cells that a text states, which has at most 2^30 bytes
+-- the layout and the cells that a text states. It has at most 2^30 bytes
 unfoldable pub stated_array : List ℕ → Walked (LayoutNumbers × List Cell)
 stated_array bytes = if nat_lt (2 ^ 30) (length bytes) then Err (TooLong (length bytes)) else read_words (words bytes)

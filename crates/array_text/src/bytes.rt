@@ -1,9 +1,9 @@
-//! Words at the front of bytes.
+//! The first word of bytes, and the bytes after it.
 //! Used in this crate by `read`, `text` and `word`.
 ghost use Rattle.std.specs.Prelude.{◌≡◌, ◌+◌, ◌<◌, ◌≤◌, length};
 ghost use Rattle.array_text.specs.Words as words;
 
-/// Whether a byte stands between words.
+/// Whether a byte is a blank.
 pub(crate) fn is_blank(b: u8) -> bool
     ensures { result ≡ words.is_blank b }
 {
@@ -24,7 +24,7 @@ pub(crate) fn skip_blanks(bytes: &[u8]) -> &[u8]
     &bytes[bytes.len()..]
 }
 
-/// The bytes before the first blank, and from it on.
+/// The bytes before the first blank, and the bytes from it on.
 pub(crate) fn split_word(bytes: &[u8]) -> (&[u8], &[u8])
     ensures word { result.0.now ≡ words.first_word bytes.now }
     ensures behind { result.1.now ≡ words.behind_word bytes.now }

@@ -9,7 +9,7 @@ use crate::text::{Text, read_cell};
 use cells::Cell;
 use std::alloc::Global;
 
-/// Reads so many cells.
+/// Reads this many cells.
 pub(crate) fn read_cells(
     alloc: Global,
     text: Text<'_>,

@@ -5,17 +5,17 @@ ghost use Rattle.array_text.specs.declared.fault.TextFault.TheVariants.{Refused}
 
 use layouts::LayoutRefusal;
 
-/// Why the words of a text do not state an array: the first fault on the way through them, which
-/// `docs/ARRAY-TEXT.md` states. Words count from 1.
+/// Why the words of a text do not state an array: the first fault of the words, in their order. `docs/ARRAY-TEXT.md`
+/// states each. Words count from 1.
 #[derive(Clone, Copy, Debug, PartialEq, Eq)]
 pub enum TextRefusal {
-    /// The text has too many bytes; none of them was looked at.
+    /// The text has too many bytes. None of them was looked at.
     TooLong { size: u64 },
-    /// Word n is not what its place allows.
+    /// Word n is not allowed at its position.
     Word { n: u64 },
-    /// Word n is needed, and the text has fewer.
+    /// Word n is needed, and the text has fewer words.
     Missing { n: u64 },
-    /// Word n stands behind the last cell.
+    /// Word n follows the last cell.
     Extra { n: u64 },
     /// The layout breaks a rule.
     Layout(LayoutRefusal),
@@ -24,7 +24,7 @@ pub enum TextRefusal {
 /// Why no array was read.
 #[derive(Clone, Copy, Debug, PartialEq, Eq)]
 pub enum TextFault {
-    /// The text shows it.
+    /// The text is refused.
     Refused(TextRefusal),
     /// Memory ran out.
     NoMemory,

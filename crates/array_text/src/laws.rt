@@ -11,7 +11,7 @@ pub fn nothing_has_no_words()
     ensures { words [] ≡ [] }
 {}
 
-/// A blank in front adds no word.
+/// A blank at the beginning adds no word.
 pub fn a_blank_adds_no_word()
     ensures { (b : ℕ) (bytes : List ℕ) → is_blank b ≡ true → words (b ∷ bytes) ≡ words bytes }
 {}
@@ -22,7 +22,7 @@ pub fn a_word_goes_up_to_a_blank()
         → words (word ++ b ∷ bytes) ≡ word ∷ words bytes }
 {}
 
-/// Where no blank follows, it goes up to the end.
+/// If no blank follows, it goes up to the end.
 pub fn a_word_goes_up_to_the_end()
     ensures { (word : List ℕ) → IsWord word → words word ≡ word ∷ [] }
 {}
@@ -32,7 +32,7 @@ pub fn digits_write_the_number()
     ensures { (n : ℕ) → n < 4294967296 → layout_number (decimal n) ≡ Some n }
 {}
 
-/// A cell's number is what its digits write, behind `-` where it is below 0.
+/// A cell's number is what its digits write, after `-` if it is below 0.
 pub fn digits_write_the_cell()
     ensures { (z : ℤ) → IsWithin z 2147483647 → cell_of (signed_decimal z) ≡ Some (stored z) }
 {}

@@ -9,12 +9,12 @@ use crate::TextRefusal;
 use crate::text::{Text, read_level_or_cells, read_number, read_word};
 use layouts::{LayoutNumbers, LayoutRefusal};
 
-/// How many levels there are, and the block extents of each.
+/// The number of levels, and the block extents of each.
 #[derive(Clone, Copy)]
 pub(crate) struct Levels {
     /// How many there are.
     pub count: u32,
-    /// The block extents of each, 0 in one that is not used.
+    /// The block extents of each level, 0 in a level that is not used.
     pub blocks: [[u32; 3]; 4],
 }
 
@@ -40,7 +40,7 @@ fn read_dimensions(text: Text<'_>, rank: u32) -> Result<([u32; 3], Text<'_>), Te
     Ok(([n, m, k], text))
 }
 
-/// Reads a word, and the numbers of the dimensions behind it.
+/// Reads a word, and the numbers of the dimensions after it.
 #[tactic(auto, unfolding(crate::specs::Walk::lengths))]
 fn read_lengths<'a>(
     text: Text<'a>,
@@ -53,7 +53,7 @@ fn read_lengths<'a>(
     read_dimensions(text, rank)
 }
 
-/// Reads the blocks of the level that follows, or the word `cells`, which gives none.
+/// Reads the blocks of the level that follows. `None` if the word `cells` follows.
 #[tactic(auto, unfolding(crate::specs::Walk::next_level))]
 fn read_level(text: Text<'_>, rank: u32) -> Result<(Option<[u32; 3]>, Text<'_>), TextRefusal>
     ensures { Shows (λ r. (r.0, rest_of r.1.next r.1.bytes.now)) (walk.next_level rank (rest_of text.entry.next text.entry.bytes.now)) result }

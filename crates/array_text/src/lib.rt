@@ -1,6 +1,6 @@
-//! The array text: a layout and the cells of an array as words. It says exactly which texts are refused, by
-//! the number of the first word that is wrong, and gives the layout and the cells of every other one. The
-//! bytes are gone over once, no list of words is made, and the cells stand in one vector, reserved once.
+//! The array text: a layout and the cells of an array, as words. It says exactly which texts are refused, by the number
+//! of the first word that is wrong. Of every other text it gives the layout and the cells. The bytes are read once. No
+//! list of words is made, and the cells are in one vector, which is reserved once.
 //! Definitions: `specs/Words` (the words of a text), `specs/Numbers` (the numbers and cells that words write),
 //! `specs/Walk` (the walk over the words: what a text states, or its first refusal) and `specs/Reads` (what
 //! `read_array_text` answers). `laws` says what the words of every text are, and that digits write their number.

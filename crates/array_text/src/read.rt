@@ -41,7 +41,7 @@ fn layout_of(numbers: LayoutNumbers) -> Result<Layout, TextRefusal>
     }
 }
 
-/// That no word is left.
+/// Checks that no word is left.
 fn check_end(text: Text<'_>) -> Result<(), TextRefusal>
     ensures { Shows (λ _. tt) (walk.end_from text.entry.next (words text.entry.bytes.now)) result }
 {
@@ -53,7 +53,7 @@ fn check_end(text: Text<'_>) -> Result<(), TextRefusal>
     }
 }
 
-/// Reads the cells of a layout, and the end behind them.
+/// Reads the cells of a layout, and the end after them.
 #[tactic(auto, unfolding(crate::specs::Walk::array_from))]
 fn read_array(alloc: Global, numbers: LayoutNumbers, text: Text<'_>) -> Result<ArrayText, TextFault>
     ensures exactly { Gives (λ a. (a.layout, a.cells.items)) (walk.array_from numbers (rest_of text.entry.next text.entry.bytes.now)) result }
@@ -65,7 +65,7 @@ fn read_array(alloc: Global, numbers: LayoutNumbers, text: Text<'_>) -> Result<A
     Ok(ArrayText { layout, cells })
 }
 
-/// Reads the array that a text of not too many bytes states.
+/// Reads the array that a text states. The text is not too long.
 #[tactic(auto, unfolding(crate::specs::Walk::read_words))]
 fn read_short_text(alloc: Global, bytes: &[u8]) -> Result<ArrayText, TextFault>
     requires { length bytes.now ≤ 2 ^ 30 }
@@ -91,9 +91,8 @@ pub fn check_size(size: u64) -> Result<(), TextRefusal>
     Ok(())
 }
 
-/// Reads the array that a text states: its layout and its cells in row-major order. `Refused` exactly where
-/// the text breaks its grammar or the layout its rules, with the first refusal on the way through the words;
-/// `NoMemory` where memory ran out.
+/// Reads the array that a text states: its layout, and its cells in row-major order. `Refused` exactly if the text
+/// breaks a rule of array texts, with the first refusal in the order of the words. `NoMemory` if memory ran out.
 #[tactic(auto, unfolding(crate::specs::Walk::stated_array))]
 pub fn read_array_text(alloc: Global, bytes: &[u8]) -> Result<ArrayText, TextFault>
     ensures exactly { Gives (λ a. (a.layout, a.cells.items)) (walk.stated_array bytes.now) result }

@@ -1,4 +1,4 @@
-//! A text as far as it is left, read word by word.
+//! The rest of a text, read word by word.
 //! Used in this crate by `cells`, `layout` and `read`.
 ghost use Rattle.std.specs.Prelude.{◌≡◌, ◌+◌, ◌<◌, ◌≤◌, length, IfOk};
 ghost use Rattle.array_text.specs.Numbers.{layout_number, cell_of};
@@ -10,7 +10,7 @@ use crate::bytes::{skip_blanks, split_word};
 use crate::word::{leading_cell, leading_number};
 use cells::Cell;
 
-/// What is left of a text.
+/// The rest of a text.
 #[derive(Clone, Copy)]
 pub(crate) struct Text<'a> {
     /// The bytes that are left.

@@ -1,4 +1,4 @@
-//! The number or the cell that a word writes, read with the word.
+//! The number or the cell that a word writes. It is read while the word is scanned.
 //! Used in this crate by `text`.
 ghost use Rattle.std.specs.Prelude.{◌≡◌, ◌+◌, ◌<◌, ◌≤◌, ◌∷◌, length, drop, option_map, IfSome, MatchOption};
 ghost use Rattle.array_text.specs.Words.{first_word, behind_word};
@@ -8,13 +8,13 @@ ghost use Rattle.array_text.specs.Reads.{leading};
 use crate::bytes::is_blank;
 use cells::{Cell, EMPTY};
 
-/// How many digits a number has at most.
+/// The greatest number of digits of a number.
 const MOST_DIGITS: usize = 10;
 
-/// How far a cell's number is from 0 at most.
+/// The greatest absolute value of a cell's number.
 const MOST_CELL: u32 = 2147483647;
 
-/// The number that the first word writes, where it does and is not above the most, and the bytes behind it.
+/// The number that the first word writes, if it writes one that is at most `most`, and the bytes after the word.
 pub(crate) fn leading_number(bytes: &[u8], most: u32) -> Option<(u32, &[u8])>
     ensures number { option_map (λ r. (r.0, r.1.now)) result ≡ leading (number_up_to most) bytes.now }
     ensures few { IfSome result (λ r. r.0 ≤ most) }
@@ -32,7 +32,7 @@ pub(crate) fn leading_number(bytes: &[u8], most: u32) -> Option<(u32, &[u8])>
     Some((value as u32, &bytes[count..]))
 }
 
-/// What a digit counts.
+/// The value of a digit.
 fn digit(b: u8) -> Option<u8>
     ensures digit { result ≡ digit_of b }
     ensures few { IfSome result (λ d. d < 10) }
@@ -44,7 +44,7 @@ fn digit(b: u8) -> Option<u8>
     }
 }
 
-/// The number that the first word writes by up to ten digits, and how many these are.
+/// The number that the first word writes with up to ten digits, and how many digits these are.
 fn leading_digits(bytes: &[u8]) -> Option<(u64, usize)>
     ensures digits { MatchOption result (number_written (first_word bytes.now) ≡ None)
         (λ r. digits_from 0 (first_word bytes.now) ≡ Some r.0) }
@@ -69,7 +69,7 @@ fn leading_digits(bytes: &[u8]) -> Option<(u64, usize)>
     Some((value, bytes.len()))
 }
 
-/// The cell that the first word writes, where it does, and the bytes behind it.
+/// The cell that the first word writes, if it writes one, and the bytes after the word.
 pub(crate) fn leading_cell(bytes: &[u8]) -> Option<(Cell, &[u8])>
     ensures cell { option_map (λ r. (r.0, r.1.now)) result ≡ leading cell_of bytes.now }
     ensures shorter { IfSome result (λ r. length r.1.now < length bytes.now) }
@@ -86,7 +86,7 @@ pub(crate) fn leading_cell(bytes: &[u8]) -> Option<(Cell, &[u8])>
     }
 }
 
-/// The empty cell, where the word that began with `.` ends before these bytes, and the bytes.
+/// The empty cell, if the word that began with `.` ends before these bytes, and these bytes.
 fn leading_empty(rest: &[u8]) -> Option<(Cell, &[u8])>
     ensures cell { option_map (λ r. (r.0, r.1.now)) result ≡ leading cell_of (46 ∷ rest.now) }
     ensures shorter { IfSome result (λ r. length r.1.now ≤ length rest.now) }
@@ -101,7 +101,7 @@ fn leading_empty(rest: &[u8]) -> Option<(Cell, &[u8])>
     }
 }
 
-/// The cell below 0 that the word that began with `-` writes on, and the bytes behind it.
+/// The cell below 0 whose word began with `-` and continues here, and the bytes after the word.
 fn leading_negative(rest: &[u8]) -> Option<(Cell, &[u8])>
     ensures cell { option_map (λ r. (r.0, r.1.now)) result ≡ leading cell_of (45 ∷ rest.now) }
     ensures shorter { IfSome result (λ r. length r.1.now ≤ length rest.now) }
@@ -112,7 +112,7 @@ fn leading_negative(rest: &[u8]) -> Option<(Cell, &[u8])>
     Some((Cell(-(n as i32)), after))
 }
 
-/// The cell that the digits of the first word write, and the bytes behind it.
+/// The cell that the digits of the first word write, and the bytes after the word.
 fn leading_positive(bytes: &[u8]) -> Option<(Cell, &[u8])>
     ensures cell { option_map (λ r. (r.0, r.1.now)) result ≡ leading positive_cell bytes.now }
     ensures shorter { IfSome result (λ r. length r.1.now < length bytes.now) }

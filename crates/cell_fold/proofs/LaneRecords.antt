@@ -25,13 +25,13 @@ use Rattle.lists.proofs.Sums.{within_abs, abs_of_32_bits, most_of_32_bits, fewes
 biased_is : (c : Cell) → SFits w32 c.0 → pos (biased c) ≡ c.0 +ℤ pos 2147483648
 biased_is c fits = omega (arith, ints, fewest_of_32_bits c.0 fits)
 
--- what holds of no number where a cell is empty, and else of the one that is stored, holds of its number
+-- a statement that holds of no number if a cell is empty, and otherwise of the stored number, holds of its number
 cell_cases : (c : Cell) (P : Option ℤ → Type 0) → (c.0 ≡ negsuc 2147483647 → P None) → ((c.0 ≡ negsuc 2147483647 → ⊥) → P (Some c.0)) → P (cell_value c)
 cell_cases c P empty present =
     let decided = Decides-int_eq c.0 (negsuc 2147483647) in
     cond_both (int_eq c.0 (negsuc 2147483647)) None (Some c.0) P (λ e. empty (decided.0 e)) (λ e. present (not_from_Decides (int_eq c.0 (negsuc 2147483647)) decided e))
 
--- ---- one number more
+-- ---- one more number
 
 least-cons : (z : ℤ) (zs : List ℤ) → z ≤ℤ pos 2147483648 → unwrap_or (least_of (z ∷ zs)) (pos 2147483648) ≡ int_min z (unwrap_or (least_of zs) (pos 2147483648))
 least-cons z [] h = omega (arith, ints, clamps)
@@ -109,7 +109,7 @@ record_of-some [] least greatest sum count some is_count is_least is_greatest is
 record_of-some (z ∷ zs) least greatest sum count some is_count is_least is_greatest is_sum =
     (λ i. record { least = is_least i; greatest = is_greatest i; sum = is_sum i; count = is_count i })
 
--- where a cell is present, the least of the lowered ones is below the greatest_of_lanes that 32 bits hold
+-- if a cell is present, the least of the lowered cells is below the greatest number that 32 bits hold
 pub least_of_lanes-some : (cells : List Cell) → Each1 (λ c. SFits w32 c.0) cells → (length (filter_map cell_value cells) ≡ 0 → ⊥) → least_of_lanes (map lowered (map biased cells)) + 1 < 2 ^ 32
 least_of_lanes-some cells h some =
     let is = least_of_lanes-biased cells h in
@@ -124,7 +124,7 @@ least_of_lanes-some cells h some =
         (λ e some'. least_le cells h.1 some')
         (λ ne some'. let more = least-cons c.0 (filter_map cell_value cells) (omega (arith, ints)) in omega (arith, ints, clamps)) some
 
--- ---- cells of which none is empty
+-- cells none of which is empty
 
 pub all-present : (cells : List Cell) → Each1 (λ c. SFits w32 c.0) cells → (least_of_lanes (map biased cells) ≡ 0 → ⊥) → length (filter_map cell_value cells) ≡ length cells
 all-present [] h some = refl
@@ -134,7 +134,7 @@ all-present (c ∷ cells) h some =
     (λ e. let none : biased c ≡ 0 = omega (arith, ints) in absurd (some (omega arith)))
     (λ ne. let rest = all-present cells h.1 (λ none. some (omega arith)) in omega arith)
 
--- the first of cells of which none is empty
+-- the first of cells none of which is empty
 one_less_present : (c : Cell) (cells : List Cell) → SFits w32 c.0 → (least_of_lanes (map biased (c ∷ cells)) ≡ 0 → ⊥) → lowered (biased c) + 1 ≡ biased c
 one_less_present c cells fits some =
     let here = biased_is c fits in

@@ -10,7 +10,7 @@ use Rattle.cells.specs.Records.{record_of}
 use Rattle.cells.specs.declared.record.Record.{Record}
 use Rattle.lists.proofs.Ranges.{range_with_len-add}
 
--- the record is that of the numbers of the parts from one place up to another, each of at most so many cells
+-- this is the record of the numbers of the parts from one index up to another; each part has at most so many cells
 pub record IsPass (numbers : ℕ → List ℤ) (from r size : ℕ) (all : Record) : Type 0 where
   pub is : all ≡ record_of (flat_map numbers (range_with_len from (r - from)))
   pub few : all.count ≤ r * size
@@ -21,7 +21,7 @@ pass-none numbers from size =
     let none : 0 ≡ from - from = omega arith in
     record { is = ap (λ n. record_of (flat_map numbers (range_with_len from n))) none; few = omega arith; within = record { low = omega (arith, ints); high = omega (arith, ints) } }
 
--- one part more
+-- one more part
 parts-more : (numbers : ℕ → List ℤ) (from r : ℕ) → from ≤ r → flat_map numbers (range_with_len from (r + 1 - from)) ≡ flat_map numbers (range_with_len from (r - from)) ++ numbers r
 parts-more numbers from r ordered =
     let more : (r + 1) - from ≡ (r - from) + 1 = omega arith in

@@ -1,4 +1,4 @@
--- The present cells of a proper region, as those of the parts of the array.
+-- The present cells of a proper region, computed part by part.
 -- Used by the proofs of `plane_record`, `planes_record`, `region_record` and `rows_record`.
 use Rattle.std.proofs.Common.{◌≡◌, ℕ, zero, suc, ◌+◌, ◌-◌, ◌*◌, ◌/◌, ◌%◌, ◌≤◌, ◌<◌, true, false, ◌&&◌, List, [], ◌∷◌, ◌++◌, length, get_or, take, drop, map, refl, sym, ap, ◌∙◌, arith, filter, filter_map, ℤ, pos, negsuc, ◌≤ℤ◌, ◌<ℤ◌, int_le, int_lt, Option, Some, None, option_and_then, slice_get, nat_abs, length-take, length-take-le, length-drop}
 use Rattle.std.specs.List.{range_with_len, flat_map}
@@ -46,7 +46,7 @@ nat_abs-pos : (z : ℤ) → pos 0 ≤ℤ z → z ≡ pos (nat_abs z)
 nat_abs-pos (pos n) h = refl
 nat_abs-pos (negsuc n) h = absurd (omega (arith, ints))
 
--- where a side begins and ends, as places
+-- the places at which a side begins and ends
 abbrev pub start : Side → ℕ
 start s = nat_abs s.from
 
@@ -94,7 +94,7 @@ part p c cells = take p (drop (c * p) cells)
 abbrev pub number : List Cell → ℕ → Option ℤ
 number cells k = option_and_then (λ (x : Option ℤ). x) (slice_get (map cell_value cells) k)
 
--- a part ends within all parts
+-- a part ends within the cells of all parts
 pub room : (c p n : ℕ) → c < n → c * p + p ≤ n * p
 room c p n h = grind arith
 
@@ -184,7 +184,7 @@ flat_map-part p a (suc m) cells =
     ∙ sym (filter_map-append cell_value (take p (drop (a * p) cells)) (take (m * p) (drop p (drop (a * p) cells))))
     ∙ ap (filter_map cell_value) (sym (take-add p (m * p) (drop (a * p) cells)) ∙ ap (λ k. take k (drop (a * p) cells)) size)
 
--- where the other sides have every place, the numbers are those of a run of cells
+-- if the other sides have every place, the numbers are those of one run of cells
 pub present_cells-run : (rank n : ℕ) (ns : List ℕ) (s : Side) (ss : List Side) (cells : List Cell) → length cells ≡ n * product ns → Fits n s → HasAll ns ss
     → present_cells (array_of rank (n ∷ ns) cells) (s ∷ ss) ≡ filter_map cell_value (take ((stop s - start s) * product ns) (drop (start s * product ns) cells))
 present_cells-run rank n ns s ss cells whole p h =

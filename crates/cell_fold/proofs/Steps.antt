@@ -1,4 +1,4 @@
--- The record so far, and one cell more.
+-- The record so far, and one more cell.
 -- Used by the proofs of `fold`.
 use Rattle.std.proofs.Common.{◌≡◌, ℕ, ◌+◌, ◌*◌, ◌^◌, ◌≤◌, ◌<◌, Bool, true, false, List, [], ◌∷◌, ◌++◌, length, ℤ, pos, ◌+ℤ◌, get_or, take, refl, sym, ap, subst, ◌∙◌, arith, filter_map, Option, Some, None, is_some, unwrap_or, SFits, to_z, of_z, w32, w64}
 use mir.Val.{bool_byte}
@@ -10,7 +10,7 @@ use Rattle.lists.specs.Numbers.{sum_of, IsWithin}
 use Rattle.lists.proofs.Folds.{sum_of-cons_option}
 use Rattle.lists.proofs.Sums.{within_abs, abs_of_32_bits}
 
--- a present cell is one number more
+-- a present cell is one more number
 pub length-cons_option : {X : Type 0} (o : Option X) → bool_byte (is_some o) ≡ length (cons_option o [])
 length-cons_option None = refl
 length-cons_option (Some x) = refl

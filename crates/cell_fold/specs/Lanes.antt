@@ -8,11 +8,11 @@ use Rattle.cell_fold.specs.declared.lanes.LaneSum.{LaneSum}
 use Rattle.cell_fold.specs.declared.lanes.Lanes.{Lanes}
 use Rattle.cell_fold.specs.declared.lanes.PresentLanes.{PresentLanes}
 
--- how far a cell is above the least that 32 bits hold: 0 where it is empty
+-- how far a cell is above -2^31: 0 for an empty cell
 abbrev pub biased : Cell → ℕ
 biased c = unsigned_abs (c.0 +ℤ pos (2 ^ 31))
 
--- one less, and the most that 32 bits hold in place of one less than 0
+-- one less; 2^32 - 1 for 0
 abbrev pub lowered : ℕ → ℕ
 lowered n = (n + (2 ^ 32 - 1)) % 2 ^ 32
 
@@ -20,12 +20,12 @@ lowered n = (n + (2 ^ 32 - 1)) % 2 ^ 32
 abbrev pub upper_half : ℕ → ℕ
 upper_half n = n / 2 ^ 16
 
--- the largest, 0 for none
+-- the largest, 0 if there is none
 abbrev pub greatest_of_lanes : List ℕ → ℕ
 greatest_of_lanes [] = 0
 greatest_of_lanes (n ∷ ns) = max n (greatest_of_lanes ns)
 
--- the smallest, the most that 32 bits hold for none
+-- the smallest, 2^32 - 1 if there is none
 abbrev pub least_of_lanes : List ℕ → ℕ
 least_of_lanes [] = 2 ^ 32 - 1
 least_of_lanes (n ∷ ns) = min n (least_of_lanes ns)
@@ -46,7 +46,7 @@ pub record SumsUp (lanes : Lanes) (ns : List ℕ) : Type 0 where
   pub count : sum_l lanes.count ≡ sum_l (map (λ n. min n 1) ns)
   pub sum : AddsUp lanes.sum ns
 
--- these lanes sum up the biased cells ns, of which each is taken for a present one
+-- these lanes sum up the biased cells ns, under the assumption that none of them is empty
 pub record SumsUpPresent (lanes : PresentLanes) (ns : List ℕ) : Type 0 where
   pub least : least_of_lanes lanes.least ≡ least_of_lanes ns
   pub greatest : greatest_of_lanes lanes.greatest ≡ greatest_of_lanes ns

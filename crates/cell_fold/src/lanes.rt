@@ -13,15 +13,15 @@ use crate::fold;
 use cells::{Cell, NOTHING, Record, merge};
 use std::simd::prelude::*;
 
-/// How many cells a block has. They have 2 KiB, which stay in the processor's nearest cache.
+/// The number of cells of a block. They take 2 KiB, which fit in the processor's nearest cache.
 const BLOCK: usize = 512;
 
-/// How many cells go at once behind the first empty one, at most: as many as a `LaneSum` sums up.
+/// The largest number of cells that are folded at a time after the first empty one: as many as a `LaneSum` can add up.
 const MOST: usize = 65536;
 
-/// The record of these cells, at most 2^26, as `fold` gives it, by eight lanes. As long as no cell was empty it goes
-/// block by block, and the next block is first taken to have no empty cell either, which takes fewer steps. The one
-/// that has one is folded again by all steps, and then the rest.
+/// The record of these cells, at most 2^26, as `fold` gives it, in eight lanes. As long as no cell was empty, it goes
+/// block by block, and assumes that the next block has no empty cell either, which takes fewer steps. A block that has
+/// one is folded again with all steps, and so are the cells after it.
 pub fn fold_lanes(cells: &[Cell]) -> Record
     requires { length cells.now ≤ 2 ^ 26 }
     ensures record { result ≡ record_of (filter_map cell_value cells.now) }
@@ -42,8 +42,8 @@ pub fn fold_lanes(cells: &[Cell]) -> Record
     all
 }
 
-/// The record of these cells. Where `present` says so, it is tried first whether none of them is empty. Fewer than 24
-/// cells, for which lanes are slower, are left to `fold`.
+/// The record of these cells. If `present`, it first tries whether none of them is empty. Fewer than 24 cells are left
+/// to `fold`, since lanes are slower for them.
 fn part_record(cells: &[Cell], present: bool) -> Record
     requires { length cells.now ≤ MOST }
     ensures record { result ≡ record_of (filter_map cell_value cells.now) }
@@ -58,8 +58,8 @@ fn part_record(cells: &[Cell], present: bool) -> Record
     }
 }
 
-/// The sum of numbers of 32 bits, at most 2^16 of them, by eight lanes: its lower 32 bits, and the sum of the numbers'
-/// upper halves. 2^16 times that is less than 2^32 below the whole sum, and so says the rest.
+/// The sum of at most 2^16 numbers of 32 bits, in eight lanes: the lower 32 bits of the sum, and the sum of the
+/// numbers' upper halves. 2^16 times the second is less than 2^32 below the whole sum, so the two determine it.
 #[derive(Clone, Copy)]
 struct LaneSum {
     low: u32x8,
@@ -78,7 +78,7 @@ impl LaneSum {
         }
     }
 
-    /// The sum with eight numbers more.
+    /// The sum with eight more numbers.
     fn with(self, eight: u32x8) -> LaneSum
         requires { sum_l self.halves + 8 * (2 ^ 16 - 1) < 2 ^ 32 }
         ensures value { (ns : List ℕ) → AddsUp self ns → AddsUp result (ns ++ eight) }
@@ -102,8 +102,8 @@ impl LaneSum {
     }
 }
 
-/// What eight lanes each sum up of biased cells: the least of those lowered by one, the greatest, how many are
-/// not 0, and the sum.
+/// The sums of biased cells in eight lanes: the least of the cells lowered by one, the greatest cell, how many cells
+/// are not 0, and their sum.
 #[derive(Clone, Copy)]
 struct Lanes {
     least: u32x8,
@@ -127,7 +127,7 @@ impl Lanes {
         }
     }
 
-    /// The lanes of eight biased cells more.
+    /// The lanes with eight more biased cells.
     fn with(self, eight: u32x8) -> Lanes
         requires count { sum_l self.count + 8 < 2 ^ 32 }
         requires halves { sum_l self.sum.halves + 8 * (2 ^ 16 - 1) < 2 ^ 32 }
@@ -144,8 +144,7 @@ impl Lanes {
     }
 }
 
-/// The record of the cells of these eights, at most 2^13. Where `present` says so, it is tried first whether none
-/// of them is empty.
+/// The record of the cells of these eights, at most 2^13. If `present`, it first tries whether none of them is empty.
 fn eights_record(eights: &[[Cell; 8]], present: bool) -> Record
     requires some { 0 < length eights.now }
     requires few { length eights.now ≤ 2 ^ 13 }
@@ -164,7 +163,7 @@ fn eights_record(eights: &[[Cell; 8]], present: bool) -> Record
     }
 }
 
-/// The record of the cells of these eights, at most 2^13, or `None` exactly where one of them is empty.
+/// The record of the cells of these eights, at most 2^13, or `None` exactly if one of them is empty.
 fn present_record(eights: &[[Cell; 8]]) -> Option<Record>
     requires some { 0 < length eights.now }
     requires few { length eights.now ≤ 2 ^ 13 }
@@ -208,7 +207,7 @@ fn mixed_record(eights: &[[Cell; 8]]) -> Record
     }
 }
 
-/// What eight lanes each sum up of biased cells of which none is empty: the least, the greatest and the sum.
+/// The sums of biased cells none of which is empty, in eight lanes: the least, the greatest and the sum.
 #[derive(Clone, Copy)]
 struct PresentLanes {
     least: u32x8,
@@ -229,7 +228,7 @@ impl PresentLanes {
         }
     }
 
-    /// The lanes of eight biased cells more.
+    /// The lanes with eight more biased cells.
     fn with(self, eight: u32x8) -> PresentLanes
         requires { sum_l self.sum.halves + 8 * (2 ^ 16 - 1) < 2 ^ 32 }
         ensures value { (ns : List ℕ) → SumsUpPresent self ns → SumsUpPresent result (ns ++ eight) }
@@ -243,7 +242,7 @@ impl PresentLanes {
     }
 }
 
-/// The lanes of the cells of these eights, at most 2^13, each taken for a present one.
+/// The lanes of the cells of these eights, at most 2^13, as if none of them were empty.
 fn present_lanes(eights: &[[Cell; 8]]) -> PresentLanes
     requires { length eights.now ≤ 2 ^ 13 }
     ensures value { SumsUpPresent result (map biased (cells_of_eights eights.now)) }
@@ -272,8 +271,7 @@ fn eights_lanes(eights: &[[Cell; 8]]) -> Lanes
     all
 }
 
-/// A cell as the number of how far it is above the least that 32 bits hold, so that 0 stands for an empty
-/// one: its bits with the top bit turned.
+/// How far a cell is above -2^31, so that an empty cell is 0: its bits with the top bit flipped.
 fn biased(c: Cell) -> u32
     ensures value { result ≡ biased c }
     ensures fits { FitsSigned w32 c.0 }
@@ -281,14 +279,14 @@ fn biased(c: Cell) -> u32
     c.0.cast_unsigned().wrapping_add(2147483648)
 }
 
-/// The number of the cell that is so far above the least that 32 bits hold.
+/// The number of the cell that is this far above -2^31.
 fn number(n: u32) -> i32
     ensures { result +ℤ pos (2 ^ 31) ≡ pos n }
 {
     n.wrapping_sub(2147483648).cast_signed()
 }
 
-/// Eight cells, each biased.
+/// Eight cells, biased.
 fn biased_of(cells: &[Cell; 8]) -> u32x8
     ensures value { result ≡ map biased cells.now }
     ensures fits { Each1 (λ c. FitsSigned w32 c.0) cells.now }
@@ -320,7 +318,7 @@ fn smaller(a: u32x8, b: u32x8) -> u32x8
     a.simd_lt(b).select(a, b)
 }
 
-/// One less in each lane; the most that 32 bits hold in place of one less than 0.
+/// One less in each lane; 2^32 - 1 in place of one less than 0.
 fn lowered(a: u32x8) -> u32x8
     ensures { result ≡ map lowered a }
 {
@@ -335,7 +333,7 @@ fn added(a: u32x8, b: u32x8) -> u32x8
     a.strict_add(b)
 }
 
-/// The sum in each lane without what is above 32 bits.
+/// The sum in each lane, modulo 2^32.
 fn added_wrapping(a: u32x8, b: u32x8) -> u32x8
     ensures { sum_l result % 2 ^ 32 ≡ (sum_l a + sum_l b) % 2 ^ 32 }
 {
@@ -349,7 +347,7 @@ fn upper_half(a: u32x8) -> u32x8
     a >> u32x8::splat(16)
 }
 
-/// The sum of all lanes without what is above 32 bits.
+/// The sum of all lanes, modulo 2^32.
 fn total_wrapping(a: u32x8) -> u32
     ensures { result ≡ sum_l a % 2 ^ 32 }
 {
@@ -364,7 +362,7 @@ fn total(a: u32x8) -> u32
     a.strict_reduce_sum()
 }
 
-/// The sum of so many numbers, of which this is the sum with each of them biased.
+/// The sum of `count` numbers, if `sum` is the sum of these numbers biased.
 fn unbiased_sum(sum: u64, count: u32) -> i64
     requires { sum < 2 ^ 63 }
     ensures { result +ℤ pos (2 ^ 31 * count) ≡ pos sum }
@@ -372,7 +370,7 @@ fn unbiased_sum(sum: u64, count: u32) -> i64
     sum as i64 - count as i64 * 2147483648
 }
 
-/// The largest number, 0 for none.
+/// The largest number, 0 if there is none.
 fn greatest_of_lanes(numbers: &[u32]) -> u32
     ensures { result ≡ greatest_of_lanes numbers.now }
 {
@@ -385,7 +383,7 @@ fn greatest_of_lanes(numbers: &[u32]) -> u32
     all
 }
 
-/// The smallest number, the most that 32 bits hold for none.
+/// The smallest number, 2^32 - 1 if there is none.
 fn least_of_lanes(numbers: &[u32]) -> u32
     ensures { result ≡ least_of_lanes numbers.now }
 {

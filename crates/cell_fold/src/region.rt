@@ -10,9 +10,9 @@ ghost use Rattle.cells.specs.Records.{record_of};
 use crate::fold_lanes;
 use cells::{Cell, NOTHING, Record, Shape, Side, merge};
 
-/// The record of the present cells of a proper region, given by its side in each dimension, of an array of
-/// this shape. The cells stand in row-major order, the last dimension fastest; the rank does not matter.
-/// Rows or planes that the region has whole are read in one run.
+/// The record of the present cells of a proper region of an array of this shape. The region is given by its side in
+/// each dimension. The cells are in row-major order. It works for every rank. Rows or planes that are whole in the
+/// region are read in one run.
 pub fn region_record(shape: &Shape, cells: &[Cell], sides: &[Side; 3]) -> Record
     requires few { length cells.now ≤ 2 ^ 26 }
     requires cells { length cells.now ≡ product shape.now.extents }
@@ -39,8 +39,7 @@ fn has_all(n: u32, s: &Side) -> bool
     s.from <= 0 && n as i64 <= s.to
 }
 
-/// The record of the present cells of the planes that one side has, within the places that two others have
-/// in each plane.
+/// The record of the present cells in the planes of `along`, within `across` in each plane.
 fn planes_record(plane: &[u32; 2], cells: &[Cell], along: &Side, across: &[Side; 2]) -> Record
     requires few { length cells.now ≤ 2 ^ 26 }
     requires from { pos 0 ≤ℤ along.now.from }
@@ -83,8 +82,7 @@ fn plane_record(extents: &[u32; 2], cells: &[Cell], sides: &[Side; 2]) -> Record
     }
 }
 
-/// The record of the present cells of the rows that one side has, within the places that another one has
-/// in each row, which is so many cells long.
+/// The record of the present cells in the rows of `along`, within `across` in each row. A row has `columns` cells.
 fn rows_record(columns: usize, cells: &[Cell], along: &Side, across: &Side) -> Record
     requires few { length cells.now ≤ 2 ^ 26 }
     requires from { pos 0 ≤ℤ along.now.from }
@@ -106,7 +104,7 @@ fn rows_record(columns: usize, cells: &[Cell], along: &Side, across: &Side) -> R
     all
 }
 
-/// The record of those parts of the cells that a side has, where each part is so many cells long.
+/// The record of those parts of the cells that `side` has. Each part has `size` cells.
 fn run_record(cells: &[Cell], size: usize, side: &Side) -> Record
     requires few { length cells.now ≤ 2 ^ 26 }
     requires from { pos 0 ≤ℤ side.now.from }

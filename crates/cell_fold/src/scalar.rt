@@ -1,4 +1,4 @@
-//! The record of some cells, one cell after the other. Used where there are too few cells for lanes.
+//! The record of some cells, one cell after the other, for cells that are too few for lanes.
 ghost use Rattle.std.specs.Prelude.{◌≡◌, ◌≤◌, ◌*◌, ◌^◌, length, filter_map};
 ghost use Rattle.lists.specs.Numbers.{IsWithin};
 ghost use Rattle.cells.specs.Cells.{cell_value};

@@ -13,7 +13,7 @@ use Rattle.cells.specs.declared.record.Record.{Record}
 
 -- ---- two records
 
--- a fact that holds of the other record where one is of none, and of both taken together where neither is, holds of the merged one
+-- a fact that holds of the other record if one record is of no numbers, and of both together if neither is, holds of the merged record
 merged-cases : (P : Record → Type 0) (a b : Record) → (a.count ≡ 0 → P b) → (b.count ≡ 0 → P a)
     → ((a.count ≡ 0 → ⊥) → (b.count ≡ 0 → ⊥) → P (record { least = int_min a.least b.least; greatest = int_max a.greatest b.greatest; sum = a.sum +ℤ b.sum; count = a.count + b.count })) → P (merged a b)
 merged-cases P a b none_left none_right both =
@@ -66,6 +66,6 @@ record_of-same xs ys same =
 pub record_of-permutation : (xs ys : List ℤ) → IsPermutation xs ys → record_of xs ≡ record_of ys
 record_of-permutation xs ys moved = record_of-same xs ys (λ weight. sym (sum_by-IsPermutation weight xs ys moved))
 
--- the merged record of two lists is that of any list with the items of both
+-- the merged record of two lists is the record of every list with the items of both
 pub merged-same : (a b r : Record) (xs ys all : List ℤ) → r ≡ merged a b → a ≡ record_of xs → b ≡ record_of ys → HaveSameItems all (xs ++ ys) → r ≡ record_of all
 merged-same a b r xs ys all is of_xs of_ys same = is ∙ (λ i. merged (of_xs i) (of_ys i)) ∙ sym (record_of-append xs ys) ∙ sym (record_of-same all (xs ++ ys) same)

@@ -19,7 +19,7 @@ inside-met d r s p q e at h =
 pub meets-inside : (d : ℕ) (r s : Rect) → HasDimensions d r → 0 < area_of r → LiesInside r s → meet_of r s ≡ r
 meets-inside d r s p some h = let e = between-inside r.from r.to s.from s.to (omega arith) some h in (λ i. record { from = e.0 i; to = e.1 i })
 
--- where a test for no cells fails there are some
+-- if a test for no cells fails, there are some
 pub some_area : (b : Bool) (r : Rect) → b ≡ false → (area_of r ≡ 0 → IsTrue b) → 0 < area_of r
 some_area b r fails none = by_number (area_of r) none
   where

@@ -23,7 +23,7 @@ lies_in sides at = pass_each (map is_within sides) at
 abbrev pub places_of : Array → List Side → List ℕ
 places_of a sides = filter (λ k. lies_in sides (coordinates_of a.extents k)) (range_with_len 0 (length a.cells))
 
--- the number at a place, where its cell is not empty
+-- the number at a place, if its cell is not empty
 abbrev pub number_at : Array → ℕ → Option ℤ
 number_at a k = option_and_then (λ c. c) (slice_get a.cells k)
 

@@ -5,7 +5,7 @@ use Rattle.std.specs.Ordering.{int_eq}
 use Rattle.cells.specs.declared.cell.Cell.{Cell}
 use Rattle.cells.specs.Array.{Array}
 
--- the number of a cell; none where -2^31 is stored
+-- the number of a cell; `None` if -2^31 is stored
 abbrev pub cell_value : Cell → Option ℤ
 cell_value c = cond (int_eq c.0 (negsuc 2147483647)) None (Some c.0)
 

@@ -9,7 +9,7 @@ use Rattle.cells.specs.declared.rect.Rect.{Rect}
 abbrev pub rect_contains : Rect → List ℕ → Bool
 rect_contains r at = is_between_ends r.from r.to at
 
--- it is a rectangle of so many dimensions
+-- it is a rectangle in so many dimensions
 abbrev pub HasDimensions : ℕ → Rect → Type 0
 HasDimensions d r = (length r.from ≡ d) × (length r.to ≡ d)
 
@@ -17,7 +17,7 @@ HasDimensions d r = (length r.from ≡ d) × (length r.to ≡ d)
 abbrev pub area_of : Rect → ℕ
 area_of r = product (map (λ (f, t). t - f) (zip r.from r.to))
 
--- where two rectangles meet
+-- the intersection of two rectangles
 abbrev pub meet_of : Rect → Rect → Rect
 meet_of r s = record {
   from = map (λ (f, g). max f g) (zip r.from s.from);

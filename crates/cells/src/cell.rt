@@ -18,7 +18,7 @@ impl Cell {
         self.0 == i32::MIN
     }
 
-    /// The number, or `None` exactly where the cell is empty.
+    /// The number, or `None` exactly if the cell is empty.
     pub fn value(self) -> Option<i32>
         ensures { result ≡ cell_value self }
     {

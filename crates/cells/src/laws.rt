@@ -12,7 +12,7 @@ ghost use Rattle.cells.specs.Records.{record_of, merged};
 ghost use Rattle.cells.specs.Rects.{rect_contains, area_of, meet_of, whole_of, HasDimensions};
 ghost use Rattle.cells.specs.declared.rect.Rect.{Rect};
 
-/// The record of the numbers of two lists is the merged one of their records.
+/// The record of the numbers of two lists is merged from their records.
 pub fn record_of_both_is_merged()
     ensures { (xs ys : List ℤ) → record_of (xs ++ ys) ≡ merged (record_of xs) (record_of ys) }
 {}
@@ -33,20 +33,20 @@ pub fn coordinates_have_indices()
     ensures back { (extents at : List ℕ) → in_bounds extents at ≡ true → coordinates_of extents (index_of extents at) ≡ at }
 {}
 
-/// Each index below the number of cells is that of coordinates in bounds.
+/// Each index below the number of cells is the index of coordinates in bounds.
 pub fn indices_have_coordinates()
     ensures in_bounds { (extents : List ℕ) (k : ℕ) → k < product extents → in_bounds extents (coordinates_of extents k) ≡ true }
     ensures back { (extents : List ℕ) (k : ℕ) → k < product extents → index_of extents (coordinates_of extents k) ≡ k }
 {}
 
-/// Indices are row-major: of two coordinates one has the smaller index exactly where it comes first in the order by the
-/// first dimension, then the next.
+/// Indices are row-major. The coordinates with the smaller index are the ones that come first: in the first dimension
+/// in which they differ, they are smaller.
 pub fn indices_are_row_major()
     ensures { (extents at other : List ℕ) → in_bounds extents at ≡ true → in_bounds extents other ≡ true →
         (index_of extents at < index_of extents other) ↔ (slice_cmp nat_cmp at other ≡ Less) }
 {}
 
-/// A cell lies where two rectangles meet exactly where it lies in both.
+/// A cell lies in the intersection of two rectangles exactly if it lies in both.
 pub fn rectangles_meet()
     ensures { (dimensions : ℕ) (r s : Rect) (at : List ℕ) → HasDimensions dimensions r → HasDimensions dimensions s →
         rect_contains (meet_of r s) at ≡ (rect_contains r at && rect_contains s at) }

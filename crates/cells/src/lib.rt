@@ -1,7 +1,7 @@
-//! Cells and what is said of them: shapes of arrays, regions and their sides, rectangles, and records of numbers.
+//! Cells and statements about them: shapes of arrays, regions and their sides, rectangles, and records of numbers.
 //! Nothing here takes memory or touches the outside.
 //! Definitions: `specs/Array` (an array, a region's places and present cells), `specs/Cells` (stored cells),
-//! `specs/Records` (records of numbers) and `specs/Rects` (rectangles). Counts, sums and extremes stand in
+//! `specs/Records` (records of numbers) and `specs/Rects` (rectangles). Counts, sums and extremes are defined in
 //! `lists`, coordinates and indices in `grids`.
 //! Stands on `lists` and `grids`; every crate that speaks of cells stands on it.
 #![tactic(auto)]

@@ -1,12 +1,12 @@
-//! Records: what is said of some cells.
+//! Records: a summary of some cells.
 //! Used by `cell_fold`, `plain_enum`, `chunk_store` and `search_run`.
 ghost use Rattle.std.specs.Prelude.{◌≡◌, ◌≤◌, ◌+◌, ◌*◌, ◌^◌, ◌+ℤ◌, ◌==◌, ◌++◌, if◌then◌else◌, List, ℤ, FitsSigned};
 ghost use Rattle.std.specs.Int.{w64};
 ghost use Rattle.lists.specs.Numbers.{least_of, greatest_of, IsWithin, HaveSameItems};
 ghost use Rattle.cells.specs.Records.{record_of, merged};
 
-/// The least, the greatest, the sum and the number of the present ones of some cells. Where there are
-/// none all four are 0.
+/// The least, the greatest, the sum and the number of the present cells among some cells. If there are none, all four
+/// are 0.
 #[derive(Clone, Copy, Debug, PartialEq, Eq)]
 pub struct Record {
     /// The least number.
@@ -20,7 +20,7 @@ pub struct Record {
 }
 
 impl Record {
-    /// The least number, or `None` exactly where the record is of none.
+    /// The least number, or `None` exactly if there are no numbers.
     pub fn least_number(&self) -> Option<i32>
         ensures value { result ≡ (if self.now.count == 0 then None else Some self.now.least) }
         ensures meant { (numbers : List ℤ) → self.now ≡ record_of numbers → result ≡ least_of numbers }
@@ -32,7 +32,7 @@ impl Record {
         }
     }
 
-    /// The greatest number, or `None` exactly where the record is of none.
+    /// The greatest number, or `None` exactly if there are no numbers.
     pub fn greatest_number(&self) -> Option<i32>
         ensures value { result ≡ (if self.now.count == 0 then None else Some self.now.greatest) }
         ensures meant { (numbers : List ℤ) → self.now ≡ record_of numbers → result ≡ greatest_of numbers }
@@ -53,8 +53,8 @@ pub const NOTHING: Record = Record {
     count: 0,
 };
 
-/// The record of all cells of which two records speak, where no cell is in both: at most 2^26 present
-/// ones, whose sum is within an `i64`.
+/// The record of all cells of two records, if no cell is in both. They have at most 2^26 present cells, whose sum fits
+/// in an `i64`.
 pub fn merge(a: Record, b: Record) -> Record
     requires few { a.count + b.count ≤ 2 ^ 26 }
     requires sum { FitsSigned w64 (a.sum +ℤ b.sum) }

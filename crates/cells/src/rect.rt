@@ -3,8 +3,8 @@
 ghost use Rattle.std.specs.Prelude.{◌≡◌, ◌<◌, ◌-◌, ◌↔◌, ◌^◌, IsTrue, map, zip};
 ghost use Rattle.cells.specs.Rects.{area_of, meet_of, rect_contains, LiesInside};
 
-/// The cells with coordinates from `from` up to but not including `to` in each of three dimensions. It has no cells
-/// where some `from` is not below its `to`.
+/// The cells with coordinates from `from` up to but not including `to`, in each of three dimensions. It has no cells if
+/// some `from` is not below its `to`.
 #[derive(Clone, Copy, Debug, PartialEq, Eq)]
 pub struct Rect {
     /// The first coordinate in each dimension.

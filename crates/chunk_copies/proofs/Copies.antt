@@ -17,15 +17,15 @@ use Rattle.grids.proofs.Coordinates.{second_some}
 pub le_self : (n : ℕ) → n ≤ n
 le_self n = omega arith
 
--- as many parts as a stretch has, from one of its lists, fit into that list
+-- the parts that a stretch has in one of its lists fit into that list
 pub parts_fit : (from count all size n : ℕ) → from + count ≤ all → all * size ≤ n → from * size + count * size ≤ n
 parts_fit from count all size n within fits = let less = mul-le-mul {n₁ = from + count} {m₁ = size} within (le_self size) in omega (arith, less)
 
--- one of its parts does too
+-- each of these parts fits into it
 pub part_fits : (from p count all size n : ℕ) → p < count → from + count ≤ all → all * size ≤ n → (from + p) * size + size ≤ n
 part_fits from p count all size n below within fits = let row = row_fits (from + p) size all size (omega arith) (omega arith) in omega (arith, row)
 
--- ---- a cell of a list of which a part was written
+-- ---- a cell of a list after a part of the list was replaced
 
 put_below : (a k : ℕ) (xs ys : List Cell) (i : ℕ) (d : Cell) → i < a → a ≤ length xs → get_or (put_mid a k xs ys) i d ≡ get_or xs i d
 put_below a k xs ys i d below within =
@@ -48,7 +48,7 @@ length-put : (a k : ℕ) (xs ys : List Cell) → length ys ≡ k → a + k ≤ l
 length-put a k xs ys long within =
     omega (arith, length-append (take a xs) (ys ++ drop k (drop a xs)), length-append ys (drop k (drop a xs)), length-take-le a xs, length-drop k (drop a xs), length-drop a xs)
 
--- ---- one part more
+-- ---- one more part
 
 -- the first places of a stretch
 abbrev pub first : ℕ → Stretch → Stretch
@@ -60,7 +60,7 @@ same_below q i other = grind (arith, nat_tests)
 other_number : (q i : ℕ) → (q == i) ≡ false → (q < i) ⊎ (i < q)
 other_number q i other = elim (cases_Bool (nat_lt q i)) [ inl less ↦ inl (ltb-true q i less) | inr more ↦ inr (grind (arith, nat_tests)) ]
 
--- with one part more, no other place is in the box
+-- with one more part, no other place is in the box
 same_copied : (s : Stretch) (ss : List Stretch) (p k : ℕ) → (k / target_size ss == s.to + p) ≡ false → is_copied (first p s ∷ ss) k ≡ is_copied (first (suc p) s ∷ ss) k
 same_copied s ss p k other =
     let more : suc (s.to + p) ≡ s.to + suc p = omega arith in
@@ -201,7 +201,7 @@ place-whole (s ∷ ss) k h below =
 abbrev pub run_of : (s : Stretch) → ℕ → List Cell → List Cell → List Cell
 run_of s size source old = take (s.to * size) old ++ take (s.count * size) (drop (s.from * size) source) ++ drop (s.to * size + s.count * size) old
 
--- the place of a cell behind the first of the run
+-- the place of a cell after the first one of the run
 run_place : (from to q size j k : ℕ) → to ≤ q → q * size + j ≡ k → from * size + (k - to * size) ≡ (from + (q - to)) * size + j
 run_place from to q size j k low is =
     let e = q - to in
@@ -269,7 +269,7 @@ run_cell s ss source old within whole all room =
           ];
     }
 
--- parts of which each is all of the other dimensions are copied in one run
+-- parts that are whole in the other dimensions are copied in one run
 pub copied_run : (s : Stretch) (ss all : List Stretch) (size : ℕ) (source old new : List Cell) → all ≡ s ∷ ss → IsWithinBoth s → AllWhole ss → target_size ss ≡ size
     → target_size all ≡ length old → source_size all ≤ length source → new ≡ run_of s size source old → CopiesBox all source old new
 copied_run s ss all size source old new is within whole is_size long room e =
@@ -278,7 +278,7 @@ copied_run s ss all size source old new is within whole is_size long room e =
     put_run s (target_size ss) source old ∙ ap (λ m. run_of s m source old) is_size ∙ sym e in
     subst (λ l. CopiesBox l source old new) (sym is) (subst (CopiesBox (s ∷ ss) source old) same run)
 
--- ---- one part more, as it is written
+-- ---- one more part, written
 
 pub copied_part : (s : Stretch) (ss : List Stretch) (p size source_part : ℕ) (source old cells part : List Cell) → target_size ss ≡ size → source_size ss ≡ source_part → p < s.count
     → IsWithinBoth s → target_size (s ∷ ss) ≡ length old → CopiesBox (first p s ∷ ss) source old cells

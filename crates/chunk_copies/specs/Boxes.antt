@@ -5,21 +5,21 @@ use Rattle.lists.specs.Numbers.{product}
 use Rattle.cells.specs.declared.cell.Cell.{Cell}
 use Rattle.chunk_copies.specs.declared.boxes.Stretch.{Stretch}
 
--- how many cells the list has that a box is copied from
+-- how many cells the list has from which a box is copied
 abbrev pub source_size : List Stretch → ℕ
 source_size ss = product (map (λ s. s.source) ss)
 
--- how many the list has that it is copied to
+-- how many cells the list has to which it is copied
 abbrev pub target_size : List Stretch → ℕ
 target_size ss = product (map (λ s. s.target) ss)
 
--- a place of the second list is in the box
+-- a place of the second list lies in the box
 abbrev pub is_copied : List Stretch → ℕ → Bool
 is_copied [] k = true
 is_copied (s ∷ ss) k =
     (nat_le s.to (k / target_size ss) && nat_lt (k / target_size ss) (s.to + s.count)) && is_copied ss (k % target_size ss)
 
--- where the cell of such a place stands in the first list
+-- the place in the first list of the cell for such a place
 abbrev pub source_index : List Stretch → ℕ → ℕ
 source_index [] k = 0
 source_index (s ∷ ss) k = (s.from + (k / target_size ss - s.to)) * source_size ss + source_index ss (k % target_size ss)

@@ -1,4 +1,4 @@
--- The cells of chunks, and where they stand among the cells of the array.
+-- The cells of chunks, and their places among the cells of the array.
 -- Used by `array_file` and `chunk_store`, and in this crate.
 use Rattle.std.specs.Prelude.{◌≡◌, ◌≢◌, ℕ, ◌+◌, ◌<◌, List, length, map, zip, slice_index_or, if◌then◌else◌}
 use Rattle.std.specs.List.{range_with_len}
@@ -16,7 +16,7 @@ pub record PlacesChunk (l : LayoutNumbers) (n : ℕ) (chunk old new : List Cell)
   pub placed : (k : ℕ) (d : Cell) → k < product l.extents → cell_chunk l k ≡ n → slice_index_or new k d ≡ slice_index_or chunk (cell_index l k) d
   pub kept : (k : ℕ) (d : Cell) → k < product l.extents → cell_chunk l k ≢ n → slice_index_or new k d ≡ slice_index_or old k d
 
--- the cell of chunk n at place p of it: that of the array that lies there, and the empty one where the chunk sticks out
+-- the cell of chunk n at index p: the cell of the array that lies there, and the empty cell where the chunk extends past the edge
 abbrev pub chunk_cell : LayoutNumbers → List Cell → ℕ → ℕ → Cell
 chunk_cell l cells n p =
     let at = map (λ (f, c). f + c) (zip (tile_from l.extents l.chunk n) (coordinates_of l.chunk p)) in

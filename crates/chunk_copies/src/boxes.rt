@@ -5,19 +5,18 @@ ghost use Rattle.chunk_copies.specs.Boxes.{source_size, target_size, IsWithinBot
 
 use cells::Cell;
 
-/// One dimension of a box that is copied: how many cells, of which extent, and from which cell on, in the
-/// list that they are copied from and in the one that they are copied to.
+/// One dimension of a box that is copied: how many cells, and for each of the two lists its extent and the first cell.
 #[derive(Clone, Copy)]
 pub(crate) struct Stretch {
     /// How many cells are copied.
     pub count: u32,
-    /// The extent of the list that they are copied from.
+    /// The extent of the list from which they are copied.
     pub source: u32,
-    /// The first of them there.
+    /// The first of them in that list.
     pub from: u32,
-    /// The extent of the list that they are copied to.
+    /// The extent of the list to which they are copied.
     pub target: u32,
-    /// The first of them there.
+    /// The first of them in that list.
     pub to: u32,
 }
 
@@ -101,7 +100,7 @@ fn copy_rows(rows: &Stretch, columns: &Stretch, source: &[Cell], target: &mut [C
     }
 }
 
-/// Copies those parts of the cells that a stretch has, where each part is so many cells long.
+/// Copies those parts of the cells that a stretch has. Each part has `size` cells.
 fn copy_run(parts: &Stretch, size: usize, source: &[Cell], target: &mut [Cell])
     requires parts { IsWithinBoth parts.now }
     requires source { parts.now.source * size ≤ length source.now }

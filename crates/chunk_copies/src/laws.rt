@@ -8,7 +8,7 @@ ghost use Rattle.layouts.specs.Rules.{IsLayout};
 ghost use Rattle.layouts.specs.declared.numbers.LayoutNumbers.{LayoutNumbers};
 ghost use Rattle.chunk_copies.specs.Placing.{chunk_of_cells};
 
-/// What is taken from an array is what is placed: at the index of each cell in its chunk, the chunk that is taken has
+/// Taking a chunk from an array undoes placing it: at the index of each cell in its chunk, the chunk that is taken has
 /// that cell.
 pub fn taken_chunks_have_each_cell()
     ensures { (l : LayoutNumbers) (cells : List Cell) (k : ℕ) (d : Cell) → IsLayout l → length cells ≡ product l.extents → k < product l.extents →

@@ -1,4 +1,4 @@
-//! Chunks that are put among the cells of an array. Used where all cells are read.
+//! Chunks that are put among the cells of an array. Used when all cells are read.
 ghost use Rattle.std.specs.Prelude.{◌≡◌, ◌≤◌, ◌<◌, ◌-◌, length};
 ghost use Rattle.lists.specs.Numbers.{product};
 ghost use Rattle.chunk_copies.specs.Placing.{PlacesChunk};
@@ -8,8 +8,8 @@ use crate::boxes::{Stretch, copy_box};
 use cells::Cell;
 use layouts::{Cut, Layout};
 
-/// Puts the cells of chunk `n` in their places among those of the array. Those of the chunk are row-major with its
-/// padding, which is never copied, and those of the array are row-major without.
+/// Puts the cells of chunk `n` in their places among the cells of the array. The cells of the chunk are row-major, with
+/// padding. Padding is not copied. The cells of the array are row-major, without padding.
 pub fn place_chunk(layout: &Layout, n: u32, chunk: &[Cell], cells: &mut [Cell])
     requires chunk { n < chunks.chunk_count layout.now }
     requires long { length chunk.now ≡ chunks.chunk_cells layout.now }

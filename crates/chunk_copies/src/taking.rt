@@ -1,4 +1,4 @@
-//! Chunks that are taken from the cells of an array. Used where array files are written.
+//! Chunks that are taken from the cells of an array. Used when array files are written.
 ghost use Rattle.std.specs.Prelude.{◌≡◌, ◌≤◌, ◌<◌, ◌-◌, length};
 ghost use Rattle.lists.specs.Numbers.{product};
 ghost use Rattle.chunk_copies.specs.Placing.{chunk_of_cells};
@@ -8,8 +8,8 @@ use crate::boxes::{Stretch, copy_box};
 use cells::{Cell, EMPTY};
 use layouts::{Cut, Layout};
 
-/// Takes the cells of chunk `n` from those of the array, which are row-major. Those of the chunk are row-major with
-/// its padding, where the cells are empty. What the chunk held is lost.
+/// Takes the cells of chunk `n` from the cells of the array, which are row-major. The chunk then has its cells in
+/// row-major order, with empty cells as padding. What it held before is lost.
 pub fn take_chunk(layout: &Layout, n: u32, cells: &[Cell], chunk: &mut [Cell])
     requires chunk { n < chunks.chunk_count layout.now }
     requires all { length cells.now ≡ product layout.now.extents }

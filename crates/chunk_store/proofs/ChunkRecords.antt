@@ -84,7 +84,7 @@ part-cut c cs q same =
     ∙ sym (map-map (λ p. (q - c.from) * product (cut_lengths cs) + p) (own_index cs) inner)
     ∙ ap (map (λ p. (q - c.from) * product (cut_lengths cs) + p)) same
 
--- the cells of the array that a chunk has are, one by one, the cells of its region
+-- the cells of the array in a chunk are, one by one, the cells of the chunk's region
 places-cut : (cs : List Cut) → All IsCut cs → map (own_index cs) (places (cut_extents cs) (array_tests cs)) ≡ places (cut_lengths cs) (chunk_tests cs)
 places-cut [] h = refl
 places-cut (c ∷ cs) h =
@@ -114,7 +114,7 @@ lies_in-ends [] (x ∷ at) = refl
 lies_in-ends (c ∷ cs) [] = refl
 lies_in-ends (c ∷ cs) (x ∷ at) = ap (λ b. (nat_le c.from x && nat_lt x c.to) && b) (lies_in-ends cs at)
 
--- a chunk has a cell of the array, and so has its region
+-- a chunk has a cell of the array, so its region has a cell
 proper : (cs : List Cut) → All IsCut cs → is_proper (cut_lengths cs) (map in_chunk cs) ≡ true
 proper [] h = refl
 proper (c ∷ cs) h =
@@ -128,7 +128,7 @@ region-proper cs ms each m_is = (λ i. is_proper (sym m_is i) (map in_chunk cs))
 
 -- ---- the cells of a chunk
 
--- a cell lies in a chunk where its coordinates lie between the chunk's ends
+-- a cell lies in a chunk if its coordinates lie between the chunk's ends
 chunk_test : (l : LayoutNumbers) (n k : ℕ) (cs : List Cut) → IsLayout l → n < chunk_count l → k < product l.extents → AreCuts l n cs
     → (cell_chunk l k == n) ≡ lies_in (map in_array cs) (coordinates_of l.extents k)
 chunk_test l n k cs is below inside cuts =
@@ -146,7 +146,7 @@ chunk_test l n k cs is below inside cuts =
           )
     ]
 
--- and there it has the index that its coordinates say
+-- its index there is the one that its coordinates say
 own_index-chunk : (l : LayoutNumbers) (n k : ℕ) (cs : List Cut) → IsLayout l → k < product l.extents → cell_chunk l k ≡ n → AreCuts l n cs → own_index cs k ≡ cell_index l k
 own_index-chunk l n k cs is inside in_chunk cuts =
     let ns = l.extents in
@@ -192,7 +192,7 @@ chunk_numbers-present l n rank cs chunk is below cuts long =
         let place = index_in_tile-below l.extents l.chunk (coordinates_of l.extents k) tiling (in_bounds-coordinates_of l.extents k inside) in
         ap (number chunk) (own_index-chunk l n k cs is inside in_chunk cuts) ∙ number-cell chunk (cell_index l k) (subst (λ m. cell_index l k < m) (sym long) place)
 
--- the record of a chunk's region is that of its numbers
+-- the record of a chunk's region is the record of its numbers
 pub chunk_record-is : (l : LayoutNumbers) (n : ℕ) (cs : List Cut) (ms : List ℕ) (sides : List Side) (chunk : List Cell) (r : Record) → IsLayout l → n < chunk_count l → AreCuts l n cs → length chunk ≡ chunk_cells l
     → ms ≡ l.chunk → sides ≡ map in_chunk cs → ((rank : ℕ) → r ≡ record_of (present_cells (array_of rank ms chunk) sides)) → r ≡ record_of (chunk_numbers l n chunk)
 chunk_record-is l n cs ms sides chunk r is below cuts long m_is sides_are h =

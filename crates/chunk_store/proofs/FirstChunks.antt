@@ -22,7 +22,7 @@ use Rattle.lists.proofs.Ranges.{in_range, length-range}
 use Rattle.grids.proofs.TileIndices.{index_in_tile-below}
 use Rattle.grids.proofs.Tilings.{tile_of-below}
 
--- ---- the places of one chunk more
+-- ---- the places of one more chunk
 
 behind : (c m : ℕ) → m ≤ c → (c ≡ m → ⊥) → m + 1 ≤ c
 behind c m low apart = grind arith
@@ -69,7 +69,7 @@ length-places-le l m =
     let all = length-range 0 (product l.extents) in
     let some = length-filter-le (λ k. nat_lt (cell_chunk l k) m) (range_with_len 0 (product l.extents)) in omega (arith, all, some)
 
--- ---- the numbers of one chunk more
+-- ---- the numbers of one more chunk
 
 pub numbers-weights : (l : LayoutNumbers) (f : ℕ → ℕ → Cell) (m : ℕ) → HaveSameItems (numbers_of_first_chunks l f (m + 1)) (numbers_of_first_chunks l f m ++ numbers_of_chunk l f m)
 numbers-weights l f m weight =
@@ -82,7 +82,7 @@ numbers-weights l f m weight =
 pub numbers-none : (l : LayoutNumbers) (f : ℕ → ℕ → Cell) → numbers_of_first_chunks l f 0 ≡ []
 numbers-none l f = ap (numbers_at l f) (filter_none (λ k. nat_lt (cell_chunk l k) 0) (range_with_len 0 (product l.extents)) (λ k _. not_below (cell_chunk l k)))
 
--- the record of one chunk more, by what is known of the records of two lists
+-- the record of one more chunk, by what is known about the records of two lists
 pub record-more : ((xs ys : List ℤ) → record_of (xs ++ ys) ≡ merged (record_of xs) (record_of ys)) → ((xs ys : List ℤ) → HaveSameItems xs ys → record_of xs ≡ record_of ys)
     → (l : LayoutNumbers) (f : ℕ → ℕ → Cell) (m : ℕ) → record_of (numbers_of_first_chunks l f (m + 1)) ≡ merged (record_of (numbers_of_first_chunks l f m)) (record_of (numbers_of_chunk l f m))
 record-more both same l f m =
@@ -112,7 +112,7 @@ numbers-cells l f n chunk is cells =
 
 -- ---- all chunks
 
--- the record so far and that of one chunk more
+-- the record so far and the record of one more chunk
 abbrev pub with_chunk : LayoutNumbers → (ℕ → ℕ → Cell) → Record → ℕ → Record
 with_chunk l f all n = merged all (record_of (numbers_of_chunk l f n))
 

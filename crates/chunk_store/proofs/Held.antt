@@ -1,4 +1,4 @@
--- What cells were read, where the bytes are told.
+-- Which cells were read, if the bytes are told.
 -- Used by the proofs of `Placed`, `Summed`, `loaded_chunk_holds_its_cells`, `read_piece` and `read_pieces`.
 use Rattle.std.proofs.Common.{◌≡◌, ℕ, ◌+◌, ◌*◌, ◌<◌, ◌≤◌, List, [], ◌∷◌, ◌++◌, length, take, drop, map, pos, Option, Some, None, refl, sym, ap, ◌∙◌, subst, arith, length-drop, length-append, get_or, append_assoc, append-nil, zero, suc}
 use Rattle.std.specs.List.{range_with_len}
@@ -19,7 +19,7 @@ use Rattle.chunk_store.specs.Loaded.{cells_from, HoldsFrom, HoldsChunk}
 
 -- ---- a cell in a part of the bytes
 
--- the number in four bytes of the first n is that of all
+-- the number in four of the first n bytes is the number in the same four of all bytes
 number_at-take : (bytes : List ℕ) (n at : ℕ) → at + 4 ≤ n → n ≤ length bytes → little_number 4 (drop at (take n bytes)) ≡ little_number 4 (drop at bytes)
 number_at-take bytes n at inside short =
     let front = take n bytes in
@@ -63,7 +63,7 @@ holds_piece (Some all) at n m bytes cells is_m held put =
     let part : bytes ≡ take (4 * n) (drop at all) = held.1 ∙ ap (λ k. take k (drop at all)) is_m in
     put ∙ ap (λ b. cells_from b 0 n) part ∙ cells_from-part all at n (omega (arith, held.0)) ∙ ap (cells_from all at) (sym long)
 
--- ---- pieces behind each other
+-- ---- pieces one after the other
 
 cells_from-nil : (all : List ℕ) (at : ℕ) → cells_from all at 0 ≡ []
 unfolding cells_from
@@ -104,7 +104,7 @@ pub holds_none : (told : Option (List ℕ)) (at : ℕ) → HoldsFrom told at []
 holds_none None at = tt
 holds_none (Some all) at = sym (cells_from-nil all at)
 
--- a piece behind cells that are held already
+-- a piece after cells that are held already
 pub holds_more : (told : Option (List ℕ)) (at n m k : ℕ) (cells part : List Cell) → n ≤ length cells → length part ≡ m
     → HoldsFrom told at (take n cells) → HoldsFrom told (at + 4 * n) part → HoldsFrom told at (take (n + m) (put_mid n k cells part))
 holds_more None at n m k cells part inside is_m h more = tt

@@ -15,7 +15,7 @@ pub one_more_asked : (l : LayoutNumbers) (n : ℕ) (old mid new : Option (List (
 one_more_asked l n old mid new before next =
     subst (AsksPieces old new 96) (next_begins l n) (asks_after old mid new 96 (chunk_start l n) (chunk_end l n) (starts_behind_header l n) (omega arith) before next)
 
--- where the next chunk is not read whole, no more than the file was asked for
+-- if the next chunk is not read whole, only bytes of the file were asked for
 pub stopped_within : (l : LayoutNumbers) (n : ℕ) (old mid new : Option (List (ℕ × ℕ))) → n < chunk_count l → AsksPieces old mid 96 (chunk_start l n)
     → AsksPieces mid new (chunk_start l n) (chunk_end l n) → AsksPieces old new 96 (file_size l)
 stopped_within l n old mid new below before next =

@@ -1,4 +1,4 @@
--- Reads one behind the other, in pieces.
+-- Reads one after the other, in pieces.
 -- Used by the proofs of `add_chunks`, `add_records`, `read_piece`, `read_pieces` and others.
 use Rattle.std.proofs.Common.{ℕ, ◌+◌, ◌≤◌, List, [], ◌∷◌, ◌++◌, Option, Some, None, sym, ap, ◌∙◌, subst, append_assoc, append-nil, arith}
 use Rattle.source_io.specs.Asked.{Asks, Rising}
@@ -11,7 +11,7 @@ pub pieces_wider : (a b c d : ℕ) (rs : List (ℕ × ℕ)) → a ≤ b → c �
 pieces_wider a b c d [] low high h = tt
 pieces_wider a b c d (r ∷ rs) low high h = (omega arith, h.1, h.2, omega arith, pieces_wider (r.0 + 1) (r.0 + 1) c d rs (omega arith) high h.4)
 
--- pieces behind others
+-- pieces after others
 pub pieces_behind : (a b c : ℕ) (rs more : List (ℕ × ℕ)) → a ≤ b → b ≤ c → Pieces a b rs → Pieces b c more → Pieces a c (rs ++ more)
 pieces_behind a b c [] more low high h later = pieces_wider a b c c more low (omega arith) later
 pieces_behind a b c (r ∷ rs) more low high h later =
@@ -27,7 +27,7 @@ rising_of_pieces : (a b : ℕ) (rs : List (ℕ × ℕ)) → Pieces a b rs → Ri
 rising_of_pieces a b [] h = tt
 rising_of_pieces a b (r ∷ rs) h = (h.0, h.1, h.3, rising_of_pieces (r.0 + 1) b rs h.4)
 
--- ---- records of reads, where they are told
+-- ---- records of reads, if they are told
 
 pub asks_none : (old : Option (List (ℕ × ℕ))) (a b : ℕ) → AsksPieces old old a b
 asks_none None a b = λ i. None

@@ -1,4 +1,4 @@
--- Chunks of a file that are put in their places one after the other, where the bytes are told.
+-- Chunks of a file that are put in their places one after the other, if the bytes are told.
 -- Used by the proofs of `add_chunk`, `add_chunks` and `add_records`.
 use Rattle.std.proofs.Common.{inl, inr, pos, ◌==◌, ◌≡◌, ℕ, ◌+◌, ◌-◌, ◌*◌, ◌<◌, ◌≤◌, arith, List, length, map, Option, Some, None, sym, ap, ◌∙◌, get_or}
 use Rattle.std.specs.List.{range_with_len}
@@ -58,7 +58,7 @@ first_chunks_all l f cells is h =
     fill_by_all (λ k. f (cell_chunk l k) (cell_index l k)) cells (product l.extents) d h.long
     (λ k inside. h.placed k d inside (tile_of-below l.extents l.chunk (coordinates_of l.extents k) tiling (in_bounds-coordinates_of l.extents k inside)))
 
--- ---- where the bytes are told
+-- ---- if the bytes are told
 
 pub none_placed : (told : Option (List ℕ)) (l : LayoutNumbers) (cells : List Cell) → length cells ≡ product l.extents → HoldsFirstChunks told l 0 cells
 none_placed None l cells long = long
@@ -77,7 +77,7 @@ all_placed (Some bytes) l cells is h =
     let f = cell_of_chunk l bytes in
     ap (map cell_value) (first_chunks_all l f cells is h) ∙ map-map cell_value (λ k. f (cell_chunk l k) (cell_index l k)) (range_with_len 0 (product l.extents))
 
--- ---- where chunks begin and end
+-- ---- the offsets at which chunks begin and end
 
 pub first_begins : (l : LayoutNumbers) → chunk_start l 0 ≡ 96
 first_begins l = grind arith
@@ -88,7 +88,7 @@ starts_behind_header l n = omega arith
 pub next_begins : (l : LayoutNumbers) (n : ℕ) → chunk_end l n ≡ chunk_start l (n + 1)
 next_begins l n = grind arith
 
--- parts of one size: that of a number below the count ends before them all
+-- parts of one size: a part whose number is below the count ends before the end of all
 part_ends : (size n count : ℕ) → n < count → 4 * size * n + 4 * size ≤ 4 * size * count
 part_ends size n count below =
     let more = count - (n + 1) in

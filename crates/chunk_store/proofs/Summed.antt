@@ -1,4 +1,4 @@
--- The record of the chunks of a file, one after the other, where the bytes are told.
+-- The record of the chunks of a file, one after the other, if the bytes are told.
 -- Used by the proofs of `add_record` and `add_records`.
 use Rattle.std.proofs.Common.{◌≡◌, ℕ, ◌+◌, ◌*◌, ◌^◌, ◌≤◌, arith, List, [], ◌++◌, length, filter_map, ℤ, pos, ◌+ℤ◌, SFits, w64, Option, Some, None, sym, ap, ◌∙◌, get_or}
 use Rattle.std.specs.List.{range_with_len}
@@ -29,7 +29,7 @@ no_record (Some bytes) l = ap record_of (sym (numbers-none l (cell_of_chunk l by
 pub none_summed : (told : Option (List ℕ)) (l : LayoutNumbers) → SumsFirst told l 0 (record { least = pos 0; greatest = pos 0; sum = pos 0; count = 0 })
 none_summed told l = record { is = no_record told l; few = omega arith; each = record { low = omega (arith, ints); high = omega (arith, ints) } }
 
--- ---- one chunk more
+-- ---- one more chunk
 
 -- what is known of a merged record
 pub record IsMerge (old one new : Record) : Type 0 where
@@ -57,7 +57,7 @@ one_more_summed told l m chunk old one new is held before here few each merge =
       each = merge.each before.each each;
     }
 
--- the counts are few enough to be added, and so are the sums
+-- the counts and the sums are small enough to be added
 pub counts_fit : (told : Option (List ℕ)) (l : LayoutNumbers) (m : ℕ) (old one : Record) → IsLayout l → SumsFirst told l m old → one.count ≤ length (places_of_chunk l m) → old.count + one.count ≤ 2 ^ 26
 counts_fit told l m old one is before few =
     let cells = is.facts.cells in

@@ -10,12 +10,12 @@ use Rattle.layouts.specs.declared.numbers.LayoutNumbers.{LayoutNumbers}
 
 -- ---- cells
 
--- the cells of the first m chunks stand in their places, where f gives the cell of a chunk at a place of it
+-- the cells of the first m chunks are in their places. f gives the cell of a chunk at an index of the chunk
 pub record HasFirstChunks (l : LayoutNumbers) (f : ℕ → ℕ → Cell) (m : ℕ) (cells : List Cell) : Type 0 where
   pub long : length cells ≡ product l.extents
   pub placed : (k : ℕ) (d : Cell) → k < product l.extents → cell_chunk l k < m → slice_index_or cells k d ≡ f (cell_chunk l k) (cell_index l k)
 
--- the cells of an array, where f gives the cell of a chunk at a place of it
+-- the cells of an array. f gives the cell of a chunk at an index of the chunk
 abbrev pub cells_of_chunks : LayoutNumbers → (ℕ → ℕ → Cell) → List Cell
 cells_of_chunks l f = map (λ k. f (cell_chunk l k) (cell_index l k)) (range_with_len 0 (product l.extents))
 
@@ -29,18 +29,18 @@ places_of_chunk l n = filter (λ k. cell_chunk l k == n) (range_with_len 0 (prod
 abbrev pub places_of_first_chunks : LayoutNumbers → ℕ → List ℕ
 places_of_first_chunks l m = filter (λ k. nat_lt (cell_chunk l k) m) (range_with_len 0 (product l.extents))
 
--- the numbers of these places, where f gives the cell of a chunk at a place of it
+-- the numbers at these places. f gives the cell of a chunk at an index of the chunk
 abbrev pub numbers_at : LayoutNumbers → (ℕ → ℕ → Cell) → List ℕ → List ℤ
 numbers_at l f places = filter_map (λ k. cell_value (f (cell_chunk l k) (cell_index l k))) places
 
--- the numbers of chunk n that lie in the array, where these are its cells, padding included
+-- the numbers of chunk n that lie in the array, if these are its cells with the padding
 abbrev pub chunk_numbers : LayoutNumbers → ℕ → List Cell → List ℤ
 chunk_numbers l n chunk = filter_map (λ k. cell_value (slice_index_or chunk (cell_index l k) empty_cell)) (places_of_chunk l n)
 
--- the numbers of chunk n that lie in the array, where f gives the cell of a chunk at a place of it
+-- the numbers of chunk n that lie in the array. f gives the cell of a chunk at an index of the chunk
 abbrev pub numbers_of_chunk : LayoutNumbers → (ℕ → ℕ → Cell) → ℕ → List ℤ
 numbers_of_chunk l f n = numbers_at l f (places_of_chunk l n)
 
--- those of the first m chunks
+-- the numbers of the first m chunks
 abbrev pub numbers_of_first_chunks : LayoutNumbers → (ℕ → ℕ → Cell) → ℕ → List ℤ
 numbers_of_first_chunks l f m = numbers_at l f (places_of_first_chunks l m)

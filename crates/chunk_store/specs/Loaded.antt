@@ -23,16 +23,16 @@ HoldsFrom (Some bytes) at cells = cells ≡ cells_from bytes at (length cells)
 abbrev pub chunk_of_file : LayoutNumbers → List ℕ → ℕ → List Cell
 chunk_of_file l bytes n = cells_from bytes (chunk_start l n) (chunk_cells l)
 
--- these are the cells of chunk n, where the bytes are told
+-- these are the cells of chunk n, if the bytes are told
 abbrev pub HoldsChunk : Option (List ℕ) → LayoutNumbers → ℕ → List Cell → Type 0
 HoldsChunk None l n cells = Unit {0}
 HoldsChunk (Some bytes) l n cells = cells ≡ chunk_of_file l bytes n
 
--- the cell of chunk n of a file of this layout at place p of it
+-- the cell of chunk n of a file of this layout, at index p of the chunk
 abbrev pub cell_of_chunk : LayoutNumbers → List ℕ → ℕ → ℕ → Cell
 cell_of_chunk l bytes n p = cell_at bytes (chunk_start l n + 4 * p)
 
--- of the cells of the array, those of the first m chunks are the file's, where the bytes are told
+-- a list has as many cells as the array, and the cells of the first m chunks are the file's, if the bytes are told
 abbrev pub HoldsFirstChunks : Option (List ℕ) → LayoutNumbers → ℕ → List Cell → Type 0
 HoldsFirstChunks None l m cells = length cells ≡ product l.extents
 HoldsFirstChunks (Some bytes) l m cells = HasFirstChunks l (cell_of_chunk l bytes) m cells
@@ -41,7 +41,7 @@ HoldsFirstChunks (Some bytes) l m cells = HasFirstChunks l (cell_of_chunk l byte
 abbrev pub coded_cell : Coded Cell
 coded_cell = code_by ℤ coded_ℤ (λ c. c.0) (λ z. record { 0 = z }) (λ c. refl)
 
--- two proofs of `HoldsChunk` are one
+-- any two proofs of `HoldsChunk` are equal
 pub HoldsChunk-prop : (told : Option (List ℕ)) (l : LayoutNumbers) (n : ℕ) (cells : List Cell) → IsProp (HoldsChunk told l n cells)
 HoldsChunk-prop None l n cells = Unit-prop
 HoldsChunk-prop (Some bytes) l n cells = Coded-set (coded_list coded_cell) _ _

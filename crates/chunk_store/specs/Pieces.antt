@@ -10,11 +10,11 @@ abbrev pub Pieces : ℕ → ℕ → List (ℕ × ℕ) → Type 0
 Pieces a b [] = Unit {0}
 Pieces a b (r ∷ rs) = (a ≤ r.0) × (0 < r.1) × (r.1 ≤ 4096) × (r.0 + r.1 ≤ b) × Pieces (r.0 + 1) b rs
 
--- such reads were added to the record, where it is told
+-- such reads were added to the record, if it is told
 abbrev pub AsksPieces : Option (List (ℕ × ℕ)) → Option (List (ℕ × ℕ)) → ℕ → ℕ → Type 0
 AsksPieces None new a b = new ≡ None
 AsksPieces (Some old) new a b = (more : List (ℕ × ℕ)) × (new ≡ Some (old ++ more)) × Pieces a b more
 
--- where chunk n ends
+-- the offset at which chunk n ends
 abbrev pub chunk_end : LayoutNumbers → ℕ → ℕ
 chunk_end l n = chunk_start l n + 4 * chunk_cells l

@@ -27,8 +27,8 @@ pub enum CellsFault {
     NoMemory,
 }
 
-/// Loads chunk `n` into the frame and puts its cells in their places, where those of the chunks before it
-/// are there.
+/// Loads chunk `n` into the frame and puts its cells in their places, if the cells of the chunks before it are in
+/// theirs.
 fn add_chunk<S: ByteSource>(
     layout: &Layout,
     n: u32,
@@ -75,9 +75,9 @@ fn add_chunks<S: ByteSource>(
     Ok(())
 }
 
-/// Reads the cells of a file of this layout, in row-major order. Each chunk is loaded once, in order, into one
-/// frame. All memory is taken before the source is read. `Read` where the source counted a fault, and
-/// `NoMemory` where memory ran out.
+/// Reads the cells of a file of this layout, in row-major order. Each chunk is loaded once, in order, into one frame.
+/// All memory is taken before the source is read. `Read` only if the source counted a fault. `NoMemory` if memory ran
+/// out.
 pub fn read_cells<S: ByteSource>(
     alloc: Global,
     layout: &Layout,

@@ -9,8 +9,8 @@ use source_io::NoMemory;
 use std::alloc::Global;
 use std::marker::Model;
 
-/// The cells of one chunk, and which chunk they are, where it holds one. Contracts see it as these two.
-/// It has as many cells as a chunk of its layout, padding included, and keeps them.
+/// The cells of one chunk, and the number of the chunk, if the frame holds one. Contracts see these two. A frame always
+/// has as many cells as a chunk of its layout, padding included.
 #[derive(Drop)]
 pub struct Frame {
     pub(crate) chunk: Option<u32>,
@@ -26,7 +26,7 @@ impl Model for Frame {
 }
 
 impl Frame {
-    /// A frame for chunks of this layout that holds no chunk. `NoMemory` where memory ran out.
+    /// A frame for chunks of this layout that holds no chunk. `NoMemory` if memory ran out.
     pub fn new(alloc: Global, layout: &Layout) -> Result<Frame, NoMemory>
         ensures no_chunk { IfOk result (λ frame. frame.chunk ≡ None) }
         ensures cells { IfOk result (λ frame. length frame.cells ≡ chunk_cells layout.now) }
@@ -37,15 +37,14 @@ impl Frame {
         Ok(Frame { chunk: None, cells })
     }
 
-    /// The number of the chunk that it holds, or `None` where it holds none.
+    /// The number of the chunk that it holds, or `None` if it holds none.
     pub fn chunk(&self) -> Option<u32>
         ensures { result ≡ self.now.chunk }
     {
         self.chunk
     }
 
-    /// Its cells, in the order of the chunk in its file, padding included. They say nothing where it holds
-    /// no chunk.
+    /// Its cells, in the order of the chunk in its file, padding included. If it holds no chunk, they say nothing.
     pub fn cells(&self) -> &[Cell]
         ensures { result.now ≡ self.now.cells }
     {

@@ -18,15 +18,15 @@ ghost use Rattle.chunk_store.specs.Pieces.{AsksPieces, chunk_end};
 
 use cells::laws::{record_of_both_is_merged, record_of_by_weighings};
 
-/// A cell of the array stands in the cells of its chunk at its place there.
+/// A cell of the array is among the cells of its chunk, at its index there.
 pub fn loaded_chunk_holds_its_cells()
     ensures { (bytes : List ℕ) (l : LayoutNumbers) (k : ℕ) (cells : List Cell) (other : Cell) →
         HoldsChunk (Some bytes) l (cell_chunk l k) cells → cell_index l k < chunk_cells l →
         get_or cells (cell_index l k) other ≡ cell_at bytes (cell_start l k) }
 {}
 
-/// The first chunk begins behind the header, each begins where the one before ends, and the last ends with
-/// the file.
+/// The first chunk begins after the header, each other chunk begins where the one before it ends, and the last ends
+/// with the file.
 pub fn chunks_follow_each_other()
     ensures first { (l : LayoutNumbers) → chunk_start l 0 ≡ 96 }
     ensures next { (l : LayoutNumbers) (n : ℕ) → chunk_start l (n + 1) ≡ chunk_end l n }
@@ -47,8 +47,8 @@ pub fn reads_in_pieces()
     ensures rise { (old new : Option (List (ℕ × ℕ))) (a b : ℕ) → AsksPieces old new a b → Asks old new a b }
 {}
 
-/// The record of the whole array is that of its chunks, merged in their order, where `f` gives the cell of a
-/// chunk at a place of it: padding is not counted, and each cell of the array is counted once. The clauses
+/// The record of the whole array is merged from the records of its chunks, in their order. `f` gives the cell of a
+/// chunk at an index of the chunk. Padding is not counted, and each cell of the array is counted once. The clauses
 /// after the first one are for a loop over the chunks.
 pub fn records_of_chunks_make_the_array()
     ensures whole { (l : LayoutNumbers) (f : ℕ → ℕ → Cell) → IsLayout l →
@@ -64,7 +64,7 @@ pub fn records_of_chunks_make_the_array()
     record_of_by_weighings();
 }
 
-/// One chunk after the other has places of its own, and the array has all of them.
+/// Each chunk has its own places, and together the chunks have all places of the array.
 pub fn chunks_share_no_cell()
     ensures next { (l : LayoutNumbers) (m : ℕ) → length (places_of_first_chunks l (m + 1)) ≡ length (places_of_first_chunks l m) + length (places_of_chunk l m) }
     ensures few { (l : LayoutNumbers) (m : ℕ) → length (places_of_first_chunks l m) ≤ product l.extents }

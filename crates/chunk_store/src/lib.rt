@@ -1,10 +1,10 @@
 //! Chunks in memory: frames, loading a chunk of an array file into one, all cells of a file, and their record.
-//! A loaded frame is its chunk, cell for cell as the told bytes have them; a load that fails leaves no
-//! chunk. Loading takes no memory, and asks for the bytes of the one chunk alone, in pieces that rise.
+//! A loaded frame has the cells of its chunk, as the told bytes have them. After a load that fails, it holds no chunk.
+//! Loading takes no memory. It asks only for the bytes of the one chunk, in pieces whose offsets rise.
 //! Definitions: `specs/Frames` (what a frame shows), `specs/Loaded` (the cells of a chunk of a file),
 //! `specs/FirstChunks` (the cells of one chunk after the other), `specs/Summaries` (the record of all cells) and
 //! `specs/Pieces` (the reads that a load makes). `laws` says that loads one after the other read in order, and that
-//! the records of all chunks make that of the array.
+//! the records of all chunks make the record of the array.
 //! Stands on `array_file`, `chunk_copies`, `cell_fold`, `layouts`, `cells` and `source_io`; used by `search_run`.
 #![tactic(auto)]
 

@@ -18,7 +18,7 @@ use source_io::{ByteSource, Failed, read_whole};
 /// How many cells a load reads at a time.
 const PIECE_CELLS: usize = 1024;
 
-/// How many bytes they have.
+/// The number of bytes of these cells.
 const PIECE_BYTES: usize = 4096;
 
 /// The cell in the four bytes from offset `at` on.
@@ -29,8 +29,8 @@ fn cell(bytes: &[u8], at: usize) -> Cell
     Cell(LittleEndian::read_i32(&bytes[at..]))
 }
 
-/// Puts the cells in these bytes in place of those that are there. Each is written once, straight from its
-/// bytes: the whole-slice reader of numbers fills a slice of numbers, which then would be copied into cells.
+/// Puts the cells in these bytes in place of the cells that were there. Each is written once, straight from its bytes.
+/// The reader of whole slices of `byteorder` would fill a slice of numbers, which would have to be copied into cells.
 fn put_cells(cells: &mut [Cell], bytes: &[u8])
     requires { length bytes.now ≡ 4 * length cells.old }
     ensures { cells.new ≡ cells_from bytes.now 0 (length cells.old) }
@@ -82,9 +82,8 @@ fn read_pieces<S: ByteSource>(src: &mut S, at: u64, cells: &mut [Cell]) -> Resul
     Ok(())
 }
 
-/// Loads chunk `n` into a frame of this layout. It reads the bytes of that chunk alone, piece by piece and
-/// each piece whole before the next, and takes no memory. `Failed` where the source counted a fault; the
-/// frame then holds no chunk.
+/// Loads chunk `n` into a frame of this layout. It reads only the bytes of that chunk, piece by piece, each piece whole
+/// before the next. It takes no memory. `Failed` only if the source counted a fault. The frame then holds no chunk.
 pub fn load<S: ByteSource>(
     layout: &Layout,
     n: u32,

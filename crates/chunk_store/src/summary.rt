@@ -17,7 +17,7 @@ use layouts::Layout;
 use source_io::{ByteSource, Failed};
 use std::alloc::Global;
 
-/// Loads chunk `n` into the frame and gives the record of the first `n + 1` chunks, from that of the first `n`.
+/// Loads chunk `n` into the frame, and adds its record to the record of the first `n` chunks.
 fn add_record<S: ByteSource>(
     layout: &Layout,
     n: u32,
@@ -42,7 +42,7 @@ fn add_record<S: ByteSource>(
     Ok(merge(all, one))
 }
 
-/// Loads each chunk once, in order, and gives the record of all.
+/// Loads each chunk once, in order, and gives the record of all chunks.
 fn add_records<S: ByteSource>(
     layout: &Layout,
     src: &mut S,
@@ -65,9 +65,9 @@ fn add_records<S: ByteSource>(
     Ok(all)
 }
 
-/// The record of all cells of a file of this layout. Each chunk is loaded once, in order, into one frame, so
-/// that no more than one chunk is in memory; its padding is not counted. All memory is taken before the source
-/// is read. `Read` where the source counted a fault, and `NoMemory` where memory ran out.
+/// The record of all cells of a file of this layout. Each chunk is loaded once, in order, into one frame, so at most
+/// one chunk is in memory. Padding is not counted. All memory is taken before the source is read. `Read` only if the
+/// source counted a fault. `NoMemory` if memory ran out.
 pub fn array_record<S: ByteSource>(
     alloc: Global,
     layout: &Layout,

@@ -377,7 +377,7 @@ default_found id (a ∷ later) rows none = go (bytes_eq a.id id) refl (has_row a
         (rest (rows ++ added v vs ∷ []) (has_row-more id rows (added v vs) ∙ ((λ i. none i || e i)))
         ∙ (λ i. if sym e i then first_or a.defaults (default_in id later) else default_in id later))
 
--- the default of each parameter is that of its rule
+-- the default of each parameter is its rule's default
 abbrev pub HaveDefaults : List Rule → List Parameter → Type 0
 HaveDefaults c [] = Unit
 HaveDefaults c (p ∷ ps) = (default_in (id_of p) c ≡ default_of p) × HaveDefaults c ps
@@ -448,7 +448,7 @@ have_defaults (number id low high default ∷ ps) i d =
 have_defaults (required_number id low high ∷ ps) i d =
     defaults_next (required_number id low high) i i ps d (have_defaults ps i (distinct_rest (required_number id low high) ps d))
 
--- what is given has its row, and what is left out its default
+-- what is given has its row, and what is left out has its default
 row_given : (id : Text) (given : List Given) → find (λ r. bytes_eq r.id id) (rows_of given) ≡ option_map row_of (find (λ g. bytes_eq g.0 id) given)
 row_given id [] = refl
 row_given id (g ∷ given) = go (bytes_eq g.0 id) (row_given id given)

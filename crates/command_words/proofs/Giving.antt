@@ -11,7 +11,7 @@ use Rattle.command_words.proofs.WordKinds.{IsPlain, IsLong, IsShort, Kind, kind}
 use Rattle.command_words.proofs.Places.{HavePlaces, IsKnown, after, after-none, placed, placed-id, placed-one, placed-takes, row_added, use-flag, use-value, used-flag, used-value}
 use Rattle.command_words.proofs.Walks.{Settles, at, clean, clean-settles, end_rows, flag-alone, flag-valued, holding, holding-settles, made, missing-divided, missing-end, missing-option, option-alone, option-unknown, option-valued, run, run-divider, run-end, short-unknown, standing, text-placed, text-too_many, value-taken}
 
--- what is found by what is given, where these rows were found before it
+-- what is found by what is given, if these rows were found before it
 abbrev pub found_from : Text → List Rule → List Row → List Given → Option (List Row)
 found_from name c rows [] = end_rows name c rows
 found_from name c rows (g ∷ given) = after (repeat_fault false g.0 rows) (found_from name c (row_added g.0 g.1 rows) given)
@@ -90,7 +90,7 @@ module _ (name : Text) (c : List Rule) (all : List Parameter) (has : HasOptions 
       (holding (id_of q) (w ∷ []) rows) (holding-settles c q (w ∷ []) rows k) at_places.3
       ∙ more_value name c q k.0 w rows (texts_from qs ws) at_places.1)
 
-  -- what is to be shown of words, where nothing waits, and where an option waits for its value
+  -- what is to be shown of words: if nothing waits, and if an option waits for its value
   abbrev AtWords : List Text → Type 0
   AtWords ws = (p : ℕ) (f : Kinds) (rows : List Row) (places : List Parameter) (h : Held) → Settles c h f rows → HavePlaces c p places
       → run (made name c) (at p false h) ws ≡ after f (found_by name c rows (given_from all places None ws))

@@ -64,7 +64,7 @@ placed-one (required_number id low high) i e = record { most = refl }
 
 -- ---- one use
 
--- the rest, where there is no fault before it
+-- the rest, if there is no fault before it
 abbrev pub after : {X : Type 0} → Kinds → Option X → Option X
 after [] o = o
 after (k ∷ ks) o = None
@@ -91,7 +91,7 @@ checked_use [] false k o = refl
 checked_use (r ∷ rs) true k o = refl
 checked_use (r ∷ rs) false k o = refl
 
--- a value is a use, where the parameter takes it and was not used before
+-- a value is a use, if the parameter takes it and was not used before
 pub use-value : {X : Type 0} (p : Parameter) (i : ℕ) (value : Text) (rows : List Row) (o : Option X) → is_flag p ≡ false
     → after (use_fault false (placed p i) (value ∷ []) rows) o ≡ (if takes p value then after (repeat_fault false (id_of p) rows) o else None)
 use-value (text id) i value rows o e = checked_use (repeat_fault false id rows) true kind.ValueValidation o
@@ -108,7 +108,7 @@ used-value (flag id) i value rows e = cc
 used-value (number id low high default) i value rows e = refl
 used-value (required_number id low high) i value rows e = refl
 
--- a flag is a use, where it was not used before
+-- a flag is a use, if it was not used before
 pub use-flag : (p : Parameter) (i : ℕ) (rows : List Row) → is_flag p ≡ true → use_fault false (placed p i) [] rows ≡ repeat_fault false (id_of p) rows
 use-flag (text id) i rows e = cc
 use-flag (positional_number id low high) i rows e = cc

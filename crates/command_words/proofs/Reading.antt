@@ -25,11 +25,11 @@ unless_fault-some [] rows e (inl memory) other = absurd (other memory)
 unless_fault-some [] rows e (inr none) other = absurd none
 unless_fault-some (k ∷ ks) rows e h other = refl
 
--- where there was an error other than out of memory, the words have no rows
+-- if there was an error other than out of memory, the words have no rows
 pub rows_in-none : (a : App) (words : List Text) (e : Error) → HasKind (fault_of a words) e → (kind_of e ≡ OutOfMemory → ⊥) → rows_in a words ≡ None
 rows_in-none a words e h other = unless_fault-some (fault_of a words) (matches_of a words) e h other
 
--- a command is made of the rows that were found by its rules
+-- a command is made of the rows that its rules found
 pub made_of : (by : List Row → Command) (rules a : App) (words : List Text) (rows : List Row) → a ≡ rules → rows_in a words ≡ Some rows
     → option_map by (rows_in rules words) ≡ Some (by rows)
 made_of by rules a words rows same found = ap (option_map by) (ap (λ x. rows_in x words) (sym same) ∙ found)
@@ -49,7 +49,7 @@ digits_from (d ∷ ds) e =
 abbrev is_number : List ℕ → Bool
 is_number ds = are_digits ds && nat_lt (digits_value 10 ds) (2 ^ 64)
 
--- the number that was parsed is that of the text
+-- the number that was parsed is the number of the text
 pub number_parsed : {E : Type 0} (text : Text) (r : Result ℕ E) → ParsesUnsigned 64 10 text r → result_unwrap_or r 0 ≡ number_of text
 number_parsed text (Ok n) h =
     let ds = without_leading_plus text in

@@ -17,7 +17,7 @@ use Rattle.command_words.specs.Rows.{unless_fault}
 use Rattle.command_words.proofs.WordKinds.{IsPlain, IsBundle}
 use Rattle.command_words.proofs.Places.{HavePlaces, IsKnown, IsSingle, TakesOne, after, or_else-nil, placed, placed-id, placed-single, use-missing}
 
--- a command with these rules, which it was built of
+-- a command with these rules, from which it was built
 abbrev pub made : Text → List Rule → App
 made name c = let a = built (bare_app name) in record a { top = record a.top { rules = c } }
 
@@ -51,7 +51,7 @@ holding-settles c p values rows k = record {
   skip = refl;
 }
 
--- ---- where the walk stands
+-- ---- the state of the walk
 
 -- at this place, with `--` met or not
 abbrev pub standing : Waiting → ℕ → Bool → Held → Walk
@@ -78,7 +78,7 @@ end_fault a w =
 abbrev pub run_fault : App → Walk → List Text → Kinds
 run_fault a w words = or_else (walk_fault a.top [] w words) (end_fault a (fold (walked a.top.rules []) w words))
 
--- what is found from here on, where there is no fault
+-- what is found from here on, if there is no fault
 abbrev pub run : App → Walk → List Text → Option (List Row)
 run a w words =
     unless_fault (run_fault a w words) (finished a.top.rules (fold (walked a.top.rules []) w words).held)
@@ -105,7 +105,7 @@ run-divider a idle p h words = refl
 run-divider a (option id) p h words = refl
 run-divider a positional p h words = refl
 
--- the rows at the end, where nothing is at fault there
+-- the rows at the end, if there is no fault there
 abbrev pub end_rows : Text → List Rule → List Row → Option (List Row)
 end_rows name c rows =
     unless_fault (or_else (defaults_fault rows c) (check_fault (top_of name c) (fold with_default rows c) false)) (fold with_default rows c)
@@ -173,7 +173,7 @@ positional_walked c r id p t h w f rows single same s =
       stopped = None;
     }
 
--- a text more than there are places is at fault
+-- one text more than there are places is a fault
 pub text-too_many : (name : Text) (c : List Rule) (p : ℕ) (t : Bool) (h : Held) (w : Text) (words : List Text) → IsText t w → HavePlaces c p []
     → run (made name c) (at p t h) (w ∷ words) ≡ None
 text-too_many name c p t h w words k none =
@@ -223,7 +223,7 @@ long_walked c p h w n v o whole long found =
     (if whole i then (h, trailing p) else long_or_other c idle w (long i) h).1)
     ∙ (λ i. walk_by c p h w v (found i))
 
--- the same, where the option is known to take values or not
+-- the same, if it is known whether the option takes values
 abbrev turn_as : Text → List Rule → ℕ → Held → Text → Option Text → Rule → Bool → Kinds
 turn_as name c p h w v r b =
     or_else (if b then option_fault c false r v h else (if is_some v then kind.TooManyValues ∷ [] else react_fault c false r [] h))
@@ -239,7 +239,7 @@ walk_as c p h w v r b =
 
 module _ (name : Text) (c : List Rule) (p : ℕ) (h : Held) (w n : Text) (v : Option Text) (words : List Text)
     (whole : bytes_eq w (codes "--") ≡ false) (long : long_of w ≡ Some (n, v)) where
-  -- an option that the command does not have is at fault
+  -- an option that the command does not have is a fault
   pub option-unknown : arg_by_long c n ≡ None → run (made name c) (at p false h) (w ∷ words) ≡ None
   option-unknown none =
       run-word (made name c) (at p false h) w words (turn_by name c p h w v None) (long_turn name c p h w n v None whole long none)
@@ -324,7 +324,7 @@ short-unknown name c waiting p w words h none skip whole long b =
 abbrev waiting_at : ℕ → Bool → Text → List Row → Walk
 waiting_at p t id rows = standing (option id) p t (holding id [] rows)
 
--- what waits without a value is at fault when it is used
+-- an option that waits without a value is a fault when it is used
 missing : (c : List Rule) (q : Parameter) (rows : List Row) (k : IsKnown c q) → is_flag q ≡ false → settle_fault c false (holding (id_of q) [] rows) ≡ kind.InvalidValue ∷ []
 missing c q rows k no_flag = (holding-settles c q [] rows k).fault ∙ use-missing q k.0 rows no_flag
 
@@ -349,7 +349,7 @@ missing-divided name c p q rows (x ∷ xs) (w ∷ words) k no_flag at_places =
     ((λ i. option_map_or (λ a. positional_fault c false a h) (at_places.0 i) (stray_fault (top_of name c)))
     ∙ (positional_turn c (placed x p) h _ _ (placed-single x p) s ∙ use-missing q k.0 rows no_flag))
 
--- another option in place of the value is at fault
+-- another option in place of the value is a fault
 long_missing : (c : List Rule) (o : Option Rule) (v : Option Text) (h : Held) → settle_fault c false h ≡ kind.InvalidValue ∷ []
     → (k : ErrorKind) × (ks : Kinds) × (long_fault c false o v h ≡ k ∷ ks)
 long_missing c None v h e = (_, _, refl)

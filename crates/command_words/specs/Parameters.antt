@@ -14,7 +14,7 @@ pub data Parameter : Type 0 where
   positional_number : (id : Text) (low high : ℕ) → Parameter
   -- an option without a value, `--id`
   flag : (id : Text) → Parameter
-  -- an option `--id N` with a whole number from low to high, and the number where it is left out
+  -- an option `--id N` with a whole number from low to high. If it is left out, the number is the default
   number : (id : Text) (low high : ℕ) (default : Text) → Parameter
   -- an option `--id N` that has to be given
   required_number : (id : Text) (low high : ℕ) → Parameter
@@ -51,11 +51,11 @@ is_required (required_number id low high) = true
 
 -- ---- numbers
 
--- digits, one at least
+-- digits, at least one
 abbrev pub are_digits : List ℕ → Bool
 are_digits digits = nat_lt 0 (length digits) && list_all (λ d. nat_lt (digit_value d) 10) digits
 
--- the number that the text is, digits that may follow a plus; 0 where it is none of 64 bits
+-- the number that the text is: digits, possibly after a plus. 0 if it is not a number of 64 bits
 abbrev pub number_of : Text → ℕ
 number_of word =
     let digits = without_leading_plus word in
@@ -86,7 +86,7 @@ fits_default (flag id) = true
 fits_default (number id low high default) = is_number_in low high default
 fits_default (required_number id low high) = true
 
--- no two have one id
+-- no two parameters have the same id
 abbrev pub have_distinct_ids : List Parameter → Bool
 have_distinct_ids [] = true
 have_distinct_ids (p ∷ ps) = not (list_any (λ q. bytes_eq (id_of p) (id_of q)) ps) && have_distinct_ids ps
@@ -95,7 +95,7 @@ have_distinct_ids (p ∷ ps) = not (list_any (λ q. bytes_eq (id_of p) (id_of q)
 abbrev pub are_sound : List Parameter → Bool
 are_sound ps = have_distinct_ids ps && (list_all fits_default ps && nat_lt (1 + length ps) (2 ^ 64 - 1))
 
--- the text that stands for the parameter where it is left out
+-- the text that stands for the parameter if it is left out
 abbrev pub default_of : Parameter → Text
 default_of (text id) = []
 default_of (positional_number id low high) = []

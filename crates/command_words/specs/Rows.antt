@@ -5,12 +5,12 @@ use Rattle.std.specs.Str.{bytes_eq}
 use Rattle.clap.specs.Words.{App, Kinds, Row, Text, fault_of, matches_of, first_of}
 use Rattle.command_words.specs.Parameters.{Parameter, id_of, number_of}
 
--- the rows, where there is no kind of fault
+-- the rows, if there is no kind of fault
 abbrev pub unless_fault : Kinds → List Row → Option (List Row)
 unless_fault [] rows = Some rows
 unless_fault (kind ∷ kinds) rows = None
 
--- what `clap` finds in the words by these rules, where it finds no fault in them
+-- what `clap` finds in the words by these rules, if it finds no fault in them
 abbrev pub rows_in : App → List Text → Option (List Row)
 rows_in app words = unless_fault (fault_of app words) (matches_of app words)
 

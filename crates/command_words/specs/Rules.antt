@@ -19,7 +19,7 @@ positional_number_rule id low high = record (new_rule id) { required = true; act
 abbrev pub flag_rule : Text → Rule
 flag_rule id = record (new_rule id) { long = Some id; action = Some SetTrue }
 
--- an option with a number, and the number where it is left out
+-- an option with a number. If it is left out, the number is the default
 abbrev pub number_rule : Text → ℕ → ℕ → Text → Rule
 number_rule id low high default =
     record (new_rule id) { long = Some id; action = Some Set; parser = Some (Unsigned low high); defaults = default ∷ [] }

@@ -17,11 +17,11 @@ is_divider word = bytes_eq word (codes "--")
 abbrev pub is_option : Text → Bool
 is_option word = starts_with nat_eq word (codes "-") && not (bytes_eq word (codes "-")) && not (is_divider word)
 
--- what stands between the two dashes of an option and its first `=` (61)
+-- the text between the two dashes of an option and its first `=` (61)
 abbrev pub name_in : Text → Text
 name_in word = before_first (λ x. x == 61) (drop 2 word)
 
--- what follows that `=`, where there is one
+-- the text after that `=`, if there is one
 abbrev pub value_in : Text → Option Text
 value_in word = if list_any (λ x. x == 61) (drop 2 word) then Some (after_first (λ x. x == 61) (drop 2 word)) else None
 
@@ -36,11 +36,11 @@ AreUtf8 (word ∷ words) = IsUtf8 word × AreUtf8 words
 abbrev pub Given : Type 0
 Given = Text × Text
 
--- the parameter is given the value, where it takes it, before the rest
+-- the parameter is given the value, if it takes it, before the rest
 abbrev pub giving : Parameter → Text → Option (List Given) → Option (List Given)
 giving p value rest = if takes p value then option_map (λ g. (id_of p, value) ∷ g) rest else None
 
--- a text goes to the first parameter whose place is left
+-- a text goes to the first parameter whose place is free
 abbrev pub giving_place : List Parameter → Text → (List Parameter → Option (List Given)) → Option (List Given)
 giving_place [] word next = None
 giving_place (p ∷ places) word next = giving p word (next places)
@@ -73,7 +73,7 @@ abbrev pub texts_from : List Parameter → List Text → Option (List Given)
 texts_from places [] = Some []
 texts_from places (word ∷ words) = giving_place places word (λ rest. texts_from rest words)
 
--- what the words give, where these places are left, and an option may wait for its value
+-- what the words give, if these places are free and an option may wait for its value
 abbrev pub given_from : List Parameter → List Parameter → Option Parameter → List Text → Option (List Given)
 given_from all places None [] = Some []
 given_from all places (Some p) [] = None
@@ -101,7 +101,7 @@ abbrev pub checked : List Parameter → Option (List Given) → Option (List Giv
 checked ps None = None
 checked ps (Some given) = if is_given_once given && has_required ps given then Some given else None
 
--- what the words give to the parameters, where there is no fault in them
+-- what the words give to the parameters, if there is no fault in them
 abbrev pub given_in : List Parameter → List Text → Option (List Given)
 given_in ps words = checked ps (given_from ps (filter is_positional ps) None words)
 
@@ -117,10 +117,10 @@ text_given id given = unwrap_or (value_given id given) []
 abbrev pub flag_given : Text → List Given → Bool
 flag_given id given = bytes_eq (unwrap_or (value_given id given) (codes "false")) (codes "true")
 
--- the number, and `default` where it is left out
+-- the number, or `default` if it is left out
 abbrev pub number_given : Text → ℕ → List Given → ℕ
 number_given id default given = option_map_or number_of (value_given id given) default
 
--- the text of each parameter, in their order, and its default where it is left out
+-- the text of each parameter, in their order. If it is left out, it is the default
 abbrev pub texts_given : List Parameter → List Given → List Text
 texts_given ps given = map (λ p. unwrap_or (value_given (id_of p) given) (default_of p)) ps

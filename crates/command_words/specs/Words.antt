@@ -27,7 +27,7 @@ command_named name words =
     else if bytes_eq name (codes "search") then search_in words
     else None
 
--- the command that the words name, where they are read
+-- the command that the words name, if they are read
 abbrev pub command_in : List Text → Option Command
 command_in [] = None
 command_in (name ∷ words) = command_named name words

@@ -8,7 +8,7 @@ ghost use Rattle.command_words.specs.Words.{bytes_of_words};
 use crate::fault::{WordsFault, fault_from_kind};
 use clap::ArgMatches;
 
-/// What `clap` finds in the words by the rules of a command. `Usage` where it finds a fault in them.
+/// What `clap` finds in the words by the rules of a command. `Usage` if it finds a fault in them.
 pub fn matches_in<'a>(
     command: clap::Command<'a>,
     words: &'a [String],
@@ -25,7 +25,7 @@ pub fn matches_in<'a>(
     }
 }
 
-/// The text with this id; empty where there is none.
+/// The text with this id, empty if there is none.
 pub fn text<'a>(matches: &ArgMatches<'a>, id: &str) -> &'a str
     ensures { result.now ≡ text_with_id id.now (rows_of (found_of matches.now)) }
 {
@@ -42,14 +42,14 @@ pub fn flag(matches: &ArgMatches<'_>, id: &str) -> bool
     text(matches, id) == "true"
 }
 
-/// The number with this id; 0 where there is none.
+/// The number with this id, 0 if there is none.
 pub fn number(matches: &ArgMatches<'_>, id: &str) -> u64
     ensures { result ≡ number_with_id id.now (rows_of (found_of matches.now)) }
 {
     number_in(text(matches, id))
 }
 
-/// The number that the text is; 0 where it is none.
+/// The number that the text is, 0 if it is not a number.
 fn number_in(text: &str) -> u64
     ensures { result ≡ number_of text.now }
 {

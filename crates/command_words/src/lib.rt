@@ -1,6 +1,6 @@
 //! The words of a command line. `read_words` gives the command that they name, with what they give, or says that they
-//! name none. The first word is compared with the names of the commands. The words after it are read by `clap`, by the
-//! rules of that command, which stand in the command's own file.
+//! name none. The first word is compared with the names of the commands. `clap` reads the words after it, by the rules
+//! of that command. Each command has a file of its own for its rules.
 //!
 //! Definitions: `specs/Words` (the command that words name, by what `clap` makes of them), one file for each command,
 //! as `specs/Solo` (its parameters), and `specs/Commands` (a command as the program holds it). The laws in

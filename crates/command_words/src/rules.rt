@@ -42,7 +42,7 @@ pub fn flag<'a>(alloc: Global, id: &'a str) -> Arg<'a>
     Arg::new(alloc, id).long(id).action(ArgAction::SetTrue)
 }
 
-/// An option `--id N` with a whole number from `low` to `high`, which is `default` where the option is left out.
+/// An option `--id N` with a whole number from `low` to `high`. If the option is left out, the number is `default`.
 pub fn number<'a>(alloc: Global, id: &'a str, low: u64, high: u64, default: &'a str) -> Arg<'a>
     ensures rule { rule_of result ≡ number_rule id.entry.now low high default.entry.now }
     ensures local { result.global ≡ false }

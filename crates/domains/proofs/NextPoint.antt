@@ -38,7 +38,7 @@ after_next d ds x p h below e =
     (λ i. map (λ (q : Point). x ∷ q) (e i) ++ flat_map (row_of (points_of ds)) (values_next d x below i))
     ∙ ap (λ points. row_of points (x +ℤ pos 1) ++ flat_map (row_of (points_of ds)) (values_of (dom_above d (x +ℤ pos 1)))) (points_of-lowest ds h)
 
--- the values of the variables before v stay, that of v rises by one, and the others are the least
+-- the values of the variables before v stay, the value of v rises by one, and the others are the least
 abbrev pub raised : List Dom → Point → ℕ → Point
 raised ds p v = take v p ++ (get_or p v (pos 0) +ℤ pos 1) ∷ lowest (drop (suc v) ds)
 

@@ -31,7 +31,7 @@ product_some (d ∷ ds) h =
     let a = size_some d h.0 in let b = product_some ds h.1 in
     let c : size_of d * 1 ≤ size_of d * size_product ds = mul-le-mul_left (size_of d) b in omega (arith, a, c)
 
--- one domain more
+-- one more domain
 pub product_more : (ds : List Dom) (i : ℕ) (e : Dom) → i < length ds → size_product (take (i + 1) ds) ≡ size_product (take i ds) * size_of (get_or ds i e)
 product_more ds i e h = ap (λ n. size_product (take n ds)) (add-one i) ∙ at ds i h
   where
@@ -86,7 +86,7 @@ product_several (d ∷ ds) h two =
       | inr later ↦ (let b : 1 * 2 ≤ size_of d * size_product ds = mul-le-mul size (product_several ds h.1 later) in omega (arith, b))
     ]
 
--- the answer where no domain has two values: the first point, where there is one
+-- the answer if no domain has two values: the first point, if there is one
 pub one_point : (box : List Dom) → HaveValues box → list_all has_one_value box ≡ true → MatchOption (slice_get (points_in box) 0) (length (points_in box) ≢ 1) (λ p. points_in box ≡ p ∷ [])
 one_point [] h one = (λ e. omega (arith, e))
 one_point (d ∷ ds) h one = alone (points_of (d ∷ ds)) (length-points_of (d ∷ ds) ∙ product_one (d ∷ ds) h one)

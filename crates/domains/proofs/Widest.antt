@@ -82,13 +82,13 @@ widest_size d (e ∷ ds) =
       | inr none ↦ ap (λ v. size_of (domain_at (d ∷ e ∷ ds) v)) (first_with-head d (e ∷ ds) none) ∙ omega arith
     ]
 
--- where no domain has two values there is one point at most
+-- if no domain has two values, there is at most one point
 few_points : (ds : List Dom) → most_values ds ≤ 1 → size_product ds ≤ 1
 few_points [] h = omega arith
 few_points (d ∷ ds) h =
     let a : size_of d ≤ 1 = omega arith in let b = few_points ds (omega arith) in mul-le-mul a b
 
--- where there are two points it has two values
+-- if there are two points, it has two values
 pub widest_several : (box : List Dom) → HaveValues box → 1 < length (points_in box)
     → (widest box < length box) × ((domain_at box (widest box)).lo <ℤ (domain_at box (widest box)).hi)
 widest_several [] h more = absurd (omega arith)

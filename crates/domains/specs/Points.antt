@@ -12,12 +12,12 @@ use Rattle.domains.specs.Values.{values_of}
 abbrev pub Point : Type 0
 Point = List ℤ
 
--- the points of these domains by nested enumeration, the first variable outermost
+-- the points of these domains: for each value of the first variable, in order, the points of the other domains with this value before them
 abbrev pub points_of : List Dom → List Point
 points_of [] = [] ∷ []
 points_of (d ∷ ds) = flat_map (λ v. map (λ p. v ∷ p) (points_of ds)) (values_of d)
 
--- those points of these domains that come after a point, in order: first those with the same first value, and then those with a greater one
+-- the points of these domains that come after a point, in order: first those with the same first value, then those with a greater one
 abbrev pub points_after : List Dom → Point → List Point
 points_after [] p = []
 points_after (d ∷ ds) [] = []
@@ -39,7 +39,7 @@ ComesBefore p p' = slice_cmp int_cmp p p' ≡ Less
 abbrev pub with_zeros : Point → List ℤ
 with_zeros p = p ++ replicate (8 - length p) (pos 0)
 
--- how points compare: by the values with zeros after them, the first variable first, and at a tie by how many variables they have
+-- how points compare: by their values with zeros after them, the first variable first. If these are equal, the point with fewer variables comes first
 abbrev pub point_cmp : Point → Point → Ordering
 point_cmp p q = ordering_then (slice_cmp int_cmp (with_zeros p) (with_zeros q)) (nat_cmp (length p) (length q))
 

@@ -21,7 +21,7 @@ first_with n (d ∷ ds) = if size_of d == n then 0 else suc (first_with n ds)
 abbrev pub widest : List Dom → ℕ
 widest box = first_with (most_values box) box
 
--- the last value of the first half: the lower end plus half the distance to the upper one, by whole division
+-- the last value of the first half: the lower end plus half the distance to the upper end, rounded down
 abbrev pub middle_of : Dom → ℤ
 middle_of d = d.lo +ℤ pos (unsigned_abs (d.hi -ℤ d.lo) / 2)
 
@@ -33,7 +33,7 @@ lower_half d = record { lo = d.lo; hi = middle_of d }
 abbrev pub upper_half : Dom → Dom
 upper_half d = record { lo = middle_of d +ℤ pos 1; hi = d.hi }
 
--- what stands in the place of a domain that is not there
+-- the domain in place of one that does not exist
 abbrev pub no_domain : Dom
 no_domain = record { lo = pos 0; hi = pos 0 }
 
@@ -41,31 +41,31 @@ no_domain = record { lo = pos 0; hi = pos 0 }
 abbrev pub domain_at : List Dom → ℕ → Dom
 domain_at box v = slice_index_or box v no_domain
 
--- the first half of a box: of its widest domain the values up to the middle
+-- the first half of a box: the values of its widest domain up to the middle
 abbrev pub first_half : List Dom → List Dom
 first_half box = slice_set box (widest box) (lower_half (domain_at box (widest box)))
 
--- the second half of a box: of its widest domain the values above the middle
+-- the second half of a box: the values of its widest domain above the middle
 abbrev pub second_half : List Dom → List Dom
 second_half box = slice_set box (widest box) (upper_half (domain_at box (widest box)))
 
--- how often n can be halved, rounding down, until it is 0; `fuel` is n at least
+-- how often n can be halved, rounding down, until it is 0; `fuel` is at least n
 abbrev pub halvings_to : (fuel n : ℕ) → ℕ
 halvings_to zero n = 0
 halvings_to (suc fuel) zero = 0
 halvings_to (suc fuel) (suc n) = suc (halvings_to fuel (suc n / 2))
 
--- the least k with n at most 2 to the k
+-- the least k with n at most 2^k
 unfoldable pub bits_for : ℕ → ℕ
 bits_for zero = 0
 bits_for (suc n) = halvings_to n n
 
--- what a box has left to be split: over its variables, the sum of the least k with at most 2 to the k values
+-- what is left to split of a box: the sum over its variables of the least k with at most 2^k values
 abbrev pub measure_of : List Dom → ℕ
 measure_of [] = 0
 measure_of (d ∷ ds) = bits_for (size_of d) + measure_of ds
 
--- each point of a box is in one of the two others and in one alone, and these have no further points
+-- each point of the box is in exactly one of the two others, and they have no other points
 pub record SharesOut (box first second : List Dom) : Type 0 where
   pub same : HaveSameItems (points_in box) (points_in first ++ points_in second)
   pub each : (p : Point) → Contains (points_in box) p ↔ (Contains (points_in first) p ⊎ Contains (points_in second) p)

@@ -5,12 +5,12 @@ use Rattle.std.specs.List.{range_with_len}
 use Rattle.domains.specs.declared.dom.Dom.{Dom}
 use Rattle.domains.specs.Values.{size_of}
 
--- how many strips a box has where so many are asked for: at most one for each value of the first variable, and one of the empty box
+-- how many strips a box has if so many are asked for: at most one for each value of the first variable, and one if the box is empty
 abbrev pub strip_count : List Dom → ℕ → ℕ
 strip_count [] asked = 1
 strip_count (d ∷ ds) asked = min asked (size_of d)
 
--- how far from the lower end the i-th of n equal parts of a domain begins, by whole division
+-- how far from the lower end the i-th of n equal parts of a domain begins, rounded down
 abbrev pub cut_at : Dom → ℕ → ℕ → ℕ
 cut_at d i n = (i * size_of d) / n
 

@@ -11,7 +11,7 @@ HasValue d = d.lo ≤ℤ d.hi
 abbrev pub has_value : Dom → Bool
 has_value d = int_le d.lo d.hi
 
--- it has no two values
+-- it does not have two values
 abbrev pub has_one_value : Dom → Bool
 has_one_value d = int_le d.hi d.lo
 
@@ -25,7 +25,7 @@ abbrev pub at_least_zero : ℤ → ℕ
 at_least_zero (pos n) = n
 at_least_zero (negsuc n) = 0
 
--- how many values a domain has; none where it ends before it begins
+-- how many values a domain has; 0 if it ends before it begins
 abbrev pub size_of : Dom → ℕ
 size_of d = at_least_zero ((d.hi +ℤ pos 1) -ℤ d.lo)
 

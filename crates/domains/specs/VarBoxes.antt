@@ -30,14 +30,14 @@ size_product (d ∷ ds) = size_of d * size_product ds
 abbrev pub lowest : List Dom → Point
 lowest box = map (λ d. d.lo) box
 
--- a point, if there is one more, and those that come after it
+-- a point, if there is one more, and the points after it
 abbrev pub points_left : List Dom → Point → Bool → List Point
 points_left box next more = if more then next ∷ points_after box next else []
 
--- the box of these domains, which is empty where one of them has no value
+-- the box of these domains. If one of them has no value, it is empty
 abbrev pub box_from : List Dom → List Dom
 box_from ds = if list_all has_value ds then ds else []
 
--- the box with this domain for a variable, which is empty where the domain has no value
+-- the box with this domain for a variable. If the domain has no value, it is empty
 abbrev pub box_with : List Dom → ℕ → Dom → List Dom
 box_with box v d = if has_value d then slice_set box v d else []

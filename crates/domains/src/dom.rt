@@ -2,7 +2,7 @@
 ghost use Rattle.std.specs.Prelude.{◌≡◌, ◌<◌, ◌≤◌, ◌^◌, pos, ◌+ℤ◌};
 ghost use Rattle.domains.specs.Values.{size_of};
 
-/// The whole numbers from `lo` up to and including `hi`; none where `lo` is above `hi`.
+/// The whole numbers from `lo` up to and including `hi`. If `lo` is above `hi`, there are none.
 #[derive(Clone, Copy, Debug, PartialEq, Eq)]
 pub struct Dom {
     /// The least value.
@@ -12,7 +12,7 @@ pub struct Dom {
 }
 
 impl Dom {
-    /// How many values it has, 0 where `lo` is above `hi`.
+    /// How many values it has. If `lo` is above `hi`, there are 0.
     pub fn count(&self) -> u64
         ensures size { result ≡ size_of self.now }
         ensures small { result ≤ 2 ^ 32 }
@@ -24,7 +24,7 @@ impl Dom {
         }
     }
 
-    /// The value at a place in it, from 0.
+    /// The value at an index, from 0.
     #[tactic(auto, using(crate::proofs::Values::value_below))]
     pub fn value(&self, k: u64) -> i32
         requires { k < size_of self.now }

@@ -20,8 +20,8 @@ pub fn points_are_in_box()
     ensures boxes { (b : List DomOf) (p : List ℤ) → Contains (points_in b) p ↔ (IsInBox b p × (0 < length b)) }
 {}
 
-/// There are as many points as the product of the sizes of the domains. So a caller who knows that product
-/// knows whether `volume` may be called.
+/// There are as many points as the product of the sizes of the domains. So a caller who knows the product knows whether
+/// `volume` may be called.
 pub fn points_are_counted()
     ensures domains { (ds : List DomOf) → length (points_of ds) ≡ size_product ds }
     ensures boxes { (b : List DomOf) → 0 < length b → length (points_in b) ≡ size_product b }
@@ -46,8 +46,8 @@ pub fn halves_share_out()
         → SharesOut b (first_half b) (second_half b) }
 {}
 
-/// All points of the first half come before all points of the second half exactly where the box is split on
-/// the first variable that has several values.
+/// All points of the first half come before all points of the second half exactly if the box is split on the first
+/// variable that has several values.
 pub fn halves_in_order()
     ensures { (b : List DomOf) → IsBox b → 1 < length (points_in b)
         → AllComeBefore (points_in (first_half b)) (points_in (second_half b)) ↔ HaveOneValueBefore b (widest b) }
@@ -70,8 +70,8 @@ pub fn measure_is_least()
     ensures least { (n k : ℕ) → n ≤ 2 ^ k → bits_for n ≤ k }
 {}
 
-/// The strips of a box one after the other have the points of the box in their order, so they share no point
-/// and lose none; each strip of a box that is not empty has a point.
+/// The strips of a box, one after the other, have the points of the box in their order. So they share no point and lose
+/// none. Each strip of a box that is not empty has a point.
 pub fn strips_share_out()
     ensures points { (b : List DomOf) (asked : ℕ) → IsBox b → 0 < asked
         → flat_map points_in (strips_of b (strip_count b asked)) ≡ points_in b }
@@ -81,9 +81,9 @@ pub fn strips_share_out()
         → IsBox (strip_of b i (strip_count b asked)) }
 {}
 
-/// Points are in a total order that agrees with `==`, which tells any two points apart. Of points of as many
-/// variables it is the lexicographic order of the values, the first variable first. A point of fewer variables
-/// is compared as if zeros followed its values, and comes first where that leaves a tie.
+/// Points are in a total order that agrees with `==`. For points with the same number of variables, it is the
+/// lexicographic order of the values, the first variable first. For others, zeros are added after the values of the
+/// shorter point, and the shorter point comes first if the values are then equal.
 pub fn points_are_ordered()
     ensures rule { (p q : List ℤ) → ⟦<Point as Ord>⟧.cmp p q ≡ point_cmp p q }
     ensures total { IsTotalOrder ⟦<Point as Ord>⟧.cmp }

@@ -25,7 +25,7 @@ fn halves(d: &Dom) -> (Dom, Dom)
 }
 
 impl VarBox {
-    /// The number, from 0, of the variable that it is split on: the first whose domain has the most values.
+    /// The index of the variable on which it is split: the first one whose domain has the most values.
     pub fn widest(&self) -> u8
         requires { 0 < length self.now }
         ensures { result ≡ widest self.now }
@@ -43,8 +43,8 @@ impl VarBox {
         best
     }
 
-    /// Keeps its first half, and puts its second half into another box, whatever that held: `split` in place,
-    /// with one copy of the box.
+    /// Keeps its first half, and puts its second half into another box, whatever that box held. This is `split` in
+    /// place, with one copy of the box.
     pub fn cut(&mut self, second: &mut VarBox)
         requires { 1 < length (points_in self.old) }
         ensures first { self.new ≡ first_half self.old }
@@ -57,9 +57,9 @@ impl VarBox {
         self.set(v, &lower);
     }
 
-    /// Its first and its second half: of the first variable whose domain has the most values the one has the
-    /// values up to the middle, the other those above it. Splitting a domain in two is domain
-    /// splitting (Apt, "Principles of Constraint Programming", 2003).
+    /// Its first and its second half. They divide the domain of the first variable that has the most values: the first
+    /// half has the values up to the middle, and the second half those above it (domain splitting: Apt, "Principles of
+    /// Constraint Programming", 2003).
     pub fn split(&self) -> (VarBox, VarBox)
         requires { 1 < length (points_in self.now) }
         ensures first { result.0 ≡ first_half self.now }

@@ -5,7 +5,7 @@ ghost use Rattle.domains.specs.Strips.{strip_count, strip_of, part_of, cut_at};
 
 use crate::{Dom, VarBox};
 
-/// The place of the value with which one of so many parts of a domain begins.
+/// The index of the value with which one of so many parts of a domain begins.
 fn cut(d: &Dom, i: u32, of: u32) -> u64
     requires some { 0 < of }
     requires there { i ≤ of }
@@ -14,7 +14,7 @@ fn cut(d: &Dom, i: u32, of: u32) -> u64
     u64::from(i) * d.count() / u64::from(of)
 }
 
-/// One of so many parts of a domain, of almost equal size.
+/// A part of a domain that is divided into this many parts of almost equal size.
 fn part(d: &Dom, i: u32, of: u32) -> Dom
     requires there { i < of }
     requires few { of ≤ size_of d.now }
@@ -28,8 +28,8 @@ fn part(d: &Dom, i: u32, of: u32) -> Dom
 }
 
 impl VarBox {
-    /// How many strips it has where so many are asked for, one at least: no more than the first variable has
-    /// values, and one where the box is empty.
+    /// How many strips it has if so many are asked for, at least one: at most one for each value of the first variable,
+    /// and one if the box is empty.
     pub fn strips(&self, asked: u32) -> u32
         requires { 0 < asked }
         ensures count { result ≡ strip_count self.now asked }
@@ -49,7 +49,7 @@ impl VarBox {
         }
     }
 
-    /// Keeps one of its strips, by its number from 0, of as many as `strips` gives.
+    /// Keeps one of its strips, by its index. `strips` says how many there are.
     pub fn keep_strip(&mut self, i: u32, of: u32)
         requires there { i < of }
         requires count { of ≡ strip_count self.old of }
@@ -60,8 +60,8 @@ impl VarBox {
         }
     }
 
-    /// One of its strips, by its number from 0, of as many as `strips` gives: of the first variable it has
-    /// almost equally many values as the other strips, and of the others all.
+    /// One of its strips, by its index. `strips` says how many there are. Strips divide the domain of the first
+    /// variable into parts of almost equal size. All other domains are whole.
     pub fn strip(&self, i: u32, of: u32) -> VarBox
         requires there { i < of }
         requires count { of ≡ strip_count self.now of }

@@ -54,8 +54,8 @@ impl VarBox {
         }
     }
 
-    /// The box of these 1 to 8 domains, one for each variable, in order. It is the empty box where one of them
-    /// has no value.
+    /// The box of these 1 to 8 domains, one for each variable, in order. If one of them has no value, it is the empty
+    /// box.
     pub fn new(doms: &[Dom]) -> VarBox
         requires some { 0 < length doms.now }
         requires few { length doms.now ≤ 8 }
@@ -97,8 +97,7 @@ impl VarBox {
         &self.doms[..self.vars as usize]
     }
 
-    /// The domain of the variable with this number, from 0. None exactly where there is no such variable, as
-    /// in the empty box.
+    /// The domain of the variable with this index. `None` exactly if there is no such variable, as in the empty box.
     pub fn dom(&self, v: u8) -> Option<Dom>
         ensures domain { result ≡ slice_get self.now v }
         ensures some { IfSome result HasValue }
@@ -111,8 +110,7 @@ impl VarBox {
         }
     }
 
-    /// Gives the variable with this number, from 0, another domain, in place. The box is empty afterwards where
-    /// the domain has no value.
+    /// Gives the variable with this index another domain, in place. If the domain has no value, the box is then empty.
     pub fn set(&mut self, v: u8, d: &Dom)
         requires { v < length self.old }
         ensures { self.new ≡ box_with self.old v d.now }
@@ -124,8 +122,7 @@ impl VarBox {
         }
     }
 
-    /// The box with this domain for the variable with this number, from 0. It is the empty box where the domain
-    /// has no value.
+    /// The box with this domain for the variable with this index. If the domain has no value, it is the empty box.
     pub fn with(&self, v: u8, d: Dom) -> VarBox
         requires { v < length self.now }
         ensures { result ≡ box_with self.now v d }

@@ -25,7 +25,7 @@ pub(crate) fn lowest_of(b: &VarBox) -> Point
 }
 
 impl VarBox {
-    /// How many points it has, where they are fewer than 2^128.
+    /// The number of its points, if they are fewer than 2^128.
     pub fn volume(&self) -> u128
         requires { length (points_in self.now) < 2 ^ 128 }
         ensures { result ≡ length (points_in self.now) }
@@ -40,7 +40,7 @@ impl VarBox {
         points
     }
 
-    /// Its lowest corner, which is the first of its points. None exactly where it is empty.
+    /// Its lowest corner, which is the first of its points. `None` exactly if it is empty.
     pub fn least(&self) -> Option<Point>
         ensures first { result ≡ slice_get (points_in self.now) 0 }
         ensures corner { IfSome result (λ p. p ≡ lowest self.now) }
@@ -51,7 +51,7 @@ impl VarBox {
         Some(lowest_of(self))
     }
 
-    /// Its point, where it has exactly one. None exactly where it has none or several.
+    /// Its point, if it has exactly one, and otherwise `None`.
     pub fn point(&self) -> Option<Point>
         ensures { MatchOption result (length (points_in self.now) ≢ 1)
             (λ p. points_in self.now ≡ p ∷ []) }

@@ -28,7 +28,7 @@ impl Model for Points {
     ghost invariant = { λ s. length s.next ≡ length s.doms };
 }
 
-/// Makes a point the one that comes next in a box, and says whether there is one.
+/// Replaces a point by the next one in a box, and says whether there is one.
 fn advance(b: &VarBox, p: &mut Point) -> bool
     requires { length p.old ≡ length b.now }
     ensures long { length p.new ≡ length p.old }

@@ -58,12 +58,12 @@ index_of-coordinates_of (n ∷ ns) k h =
     let rest = index_of-coordinates_of ns (k % product ns) (mod_below k (product ns) (second_some k n (product ns) h)) in
     ap (λ j. k / product ns * product ns + j) rest ∙ div-add-mod' k (product ns)
 
--- ---- the order of indices and that of coordinates
+-- ---- the order of indices and the order of coordinates
 
 behind : (c d : ℕ) → nat_lt c d ≡ false → (c == d) ≡ false → d < c
 behind c d h k = grind (arith, nat_tests)
 
--- where one coordinate of each comes first
+-- by the first coordinates, and then by the rest
 by_first : (p c d i j : ℕ) (rest : Ordering) → i < p → j < p → ((i < j) ↔ (rest ≡ Less)) → (c * p + i < d * p + j) ↔ (ordering_then (nat_cmp c d) rest ≡ Less)
 by_first p c d i j rest first second same =
     elim (cases_Bool (nat_lt c d)) [

@@ -50,7 +50,7 @@ some_place (f ∷ fs) (t ∷ ts) [] h = cc
 some_place (f ∷ fs) (t ∷ ts) (c ∷ cs) h =
     let b = between-parts f t c fs ts cs h in product-some (t - f) (product (lengths fs ts)) (omega (arith, b.0, b.1)) (some_place fs ts cs b.2)
 
--- one that has a cell has its first one
+-- a rectangle that has a cell has its first cell
 pub first_place : (fs ts : List ℕ) → length ts ≡ length fs → 0 < product (lengths fs ts) → is_between_ends fs ts fs ≡ true
 first_place [] [] long some = refl
 first_place [] (t ∷ ts) long some = absurd (omega arith)

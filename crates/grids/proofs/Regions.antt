@@ -13,7 +13,7 @@ use Rattle.grids.specs.Coordinates.{coordinates_of, pass_each}
 abbrev pub places : List ℕ → List (ℕ → Bool) → List ℕ
 places ns ps = filter (λ k. pass_each ps (coordinates_of ns k)) (range_with_len 0 (product ns))
 
--- those of the c-th part
+-- the indices of the c-th part
 part_in : (n : ℕ) (ns : List ℕ) (p : ℕ → Bool) (ps : List (ℕ → Bool)) (c : ℕ)
     → filter (λ k. pass_each (p ∷ ps) (coordinates_of (n ∷ ns) k)) (numbers_of_part (product ns) (range_with_len 0 (product ns)) c) ≡ cond (p c) (numbers_of_part (product ns) (places ns ps) c) []
 part_in n ns p ps c =

@@ -9,7 +9,7 @@ use Rattle.lists.specs.Numbers.{product}
 use Rattle.grids.proofs.Coordinates.{in_bounds-parts, in_bounds-from, index_of-below, coordinates_of-index_of}
 use Rattle.grids.proofs.Tilings.{quotients, firsts, coordinates_of-tile_of}
 
--- where a cell stands in its tile, in each dimension
+-- the coordinates of a cell within its tile, in each dimension
 abbrev pub remainders : List ℕ → List ℕ → List ℕ
 remainders at ms = map (λ (c, m). c % m) (zip at ms)
 
@@ -59,7 +59,7 @@ differences cs fs = map (λ (c, f). c - f) (zip cs fs)
 abbrev pub sums : List ℕ → List ℕ → List ℕ
 sums fs cs = map (λ (f, c). f + c) (zip fs cs)
 
--- where a cell stands in its tile is how far it is from the tile's first coordinates
+-- the coordinates of a cell within its tile are its distances from the tile's first coordinates
 pub differences-firsts : (ns ms at : List ℕ) → IsTiling ns ms → in_bounds ns at ≡ true → differences at (firsts (quotients at ms) ms) ≡ remainders at ms
 differences-firsts [] [] [] t h = refl
 differences-firsts [] [] (c ∷ cs) t h = cc

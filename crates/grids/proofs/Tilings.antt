@@ -88,7 +88,7 @@ begins (n ∷ ns) (m ∷ ms) (q ∷ qs) t g =
 pub tile_of-below : (ns ms at : List ℕ) → IsTiling ns ms → in_bounds ns at ≡ true → tile_of ns ms at < tile_count ns ms
 tile_of-below ns ms at t h = index_of-below (grid_of ns ms) (quotients at ms) (quotients-in_bounds ns ms at t h)
 
--- the tile of a cell stands where the cell's quotients say
+-- the coordinates of the tile of a cell are the cell's quotients
 pub coordinates_of-tile_of : (ns ms at : List ℕ) → IsTiling ns ms → in_bounds ns at ≡ true → coordinates_of (grid_of ns ms) (tile_of ns ms at) ≡ quotients at ms
 coordinates_of-tile_of ns ms at t h = coordinates_of-index_of (grid_of ns ms) (quotients at ms) (quotients-in_bounds ns ms at t h)
 

@@ -1,4 +1,4 @@
--- Tiles: rectangles of one size, numbered row-major, that cover an array and are cut to it. Chunks are tiles, and so are the blocks of each level.
+-- Tiles: rectangles of one size, numbered row-major, that cover an array and are cut to it. Chunks are tiles, and the blocks of each level are tiles too.
 -- Used by `layouts`, `chunk_copies` and `chunk_store`, and in this crate.
 use Rattle.std.specs.Prelude.{◌≡◌, ℕ, ◌+◌, ◌-◌, ◌*◌, ◌/◌, ◌%◌, ◌≤◌, min, List, map, zip}
 use Rattle.std.specs.List.{AllZip}
@@ -13,7 +13,7 @@ pieces_of extent length = (extent + (length - 1)) / length
 abbrev pub grid_of : List ℕ → List ℕ → List ℕ
 grid_of extents lengths = map (λ (n, m). pieces_of n m) (zip extents lengths)
 
--- as many lengths as extents, each 1 at least
+-- as many lengths as extents, each at least 1
 abbrev pub IsTiling : List ℕ → List ℕ → Type 0
 IsTiling extents lengths = AllZip (λ _ m. 1 ≤ m) extents lengths
 
@@ -29,11 +29,11 @@ tile_count extents lengths = product (grid_of extents lengths)
 abbrev pub tile_of : List ℕ → List ℕ → List ℕ → ℕ
 tile_of extents lengths at = index_of (grid_of extents lengths) (map (λ (c, m). c / m) (zip at lengths))
 
--- the index of the cell within its tile, as in a tile that is not cut
+-- the index of the cell within its tile, as if the tile were not cut
 abbrev pub index_in_tile : List ℕ → List ℕ → ℕ
 index_in_tile lengths at = index_of lengths (map (λ (c, m). c % m) (zip at lengths))
 
--- where a tile stands in the grid
+-- the coordinates of a tile in the grid
 abbrev pub tile_coordinates : List ℕ → List ℕ → ℕ → List ℕ
 tile_coordinates extents lengths t = coordinates_of (grid_of extents lengths) t
 

@@ -53,7 +53,7 @@ grid_lengths (n ∷ ns) (m ∷ ms) he hl =
     All-cons IsLength (pieces_of n m) (grid_of ns ms) (pieces_of-some n m first.0 size.0, omega arith)
     (grid_lengths ns ms (All-tail IsLength n ns he) (All-tail IsLength m ms hl))
 
--- there are at most as many tiles as cells, and one at least
+-- there are at most as many tiles as cells, and at least one
 pub tile_count-few : (extents lengths : List ℕ) → length extents ≡ length lengths → All IsLength extents → All IsLength lengths → tile_count extents lengths ≤ product extents
 tile_count-few [] lengths same he hl = omega arith
 tile_count-few (n ∷ ns) [] same he hl = absurd (omega arith)

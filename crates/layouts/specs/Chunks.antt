@@ -27,15 +27,15 @@ chunk_count l = tile_count l.extents l.chunk
 abbrev pub chunk_rect : LayoutNumbers → ℕ → Rect
 chunk_rect l n = tile_rect l.extents l.chunk n
 
--- in which chunk the cell with these coordinates lies
+-- the chunk in which the cell with these coordinates lies
 abbrev pub chunk_of : LayoutNumbers → List ℕ → ℕ
 chunk_of l at = tile_of l.extents l.chunk at
 
--- and at which index of that chunk, padding included
+-- the index of that cell in the chunk, padding included
 abbrev pub index_in_chunk : LayoutNumbers → List ℕ → ℕ
 index_in_chunk l at = index_in_tile l.chunk at
 
--- the same of the k-th cell
+-- the same for the k-th cell
 abbrev pub cell_chunk : LayoutNumbers → ℕ → ℕ
 cell_chunk l k = chunk_of l (coordinates_of l.extents k)
 
@@ -52,7 +52,7 @@ block_extents l level = slice_index_or l.blocks level []
 abbrev pub level_grid : LayoutNumbers → ℕ → List ℕ
 level_grid l level = grid_of l.extents (block_extents l level)
 
--- how many it has
+-- how many blocks a level has
 abbrev pub block_count : LayoutNumbers → ℕ → ℕ
 block_count l level = tile_count l.extents (block_extents l level)
 
@@ -60,14 +60,14 @@ block_count l level = tile_count l.extents (block_extents l level)
 abbrev pub block_rect : LayoutNumbers → ℕ → ℕ → Rect
 block_rect l level b = tile_rect l.extents (block_extents l level) b
 
--- in which block of a level the cell with these coordinates lies
+-- the block of a level in which the cell with these coordinates lies
 abbrev pub block_of : LayoutNumbers → ℕ → List ℕ → ℕ
 block_of l level at = tile_of l.extents (block_extents l level) at
 
--- in which block of the next level the first cell of a block lies
+-- the block of the next level in which the first cell of a block lies
 abbrev pub block_above : LayoutNumbers → ℕ → ℕ → ℕ
 block_above l level b = block_of l (level + 1) (tile_from l.extents (block_extents l level) b)
 
--- in which chunk the first cell of a block of level 0 lies
+-- the chunk in which the first cell of a block of level 0 lies
 abbrev pub chunk_around : LayoutNumbers → ℕ → ℕ
 chunk_around l b = chunk_of l (tile_from l.extents (block_extents l 0) b)

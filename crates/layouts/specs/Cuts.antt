@@ -18,7 +18,7 @@ cut_froms cuts = map (λ c. c.from) cuts
 abbrev pub cut_tos : List Cut → List ℕ
 cut_tos cuts = map (λ c. c.to) cuts
 
--- the cells lie in the array, and there are as many as a chunk has or as the array has left, and at least one
+-- the cells lie in the array. There are as many as a chunk has, or as are left in the array, and at least one
 pub record IsCut (c : Cut) : Type 0 where
   pub some : c.from < c.to
   pub within : c.to ≤ c.extent

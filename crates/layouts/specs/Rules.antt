@@ -22,7 +22,7 @@ is_between low high n = nat_le low n && nat_le n high
 abbrev pub dimensions : List ℕ
 dimensions = 0 ∷ 1 ∷ 2 ∷ []
 
--- a length in a dimension that is used is from 1 to the most, and in one that is not it is 1
+-- a length is from 1 to the most in a dimension that is used, and 1 in a dimension that is not
 abbrev pub is_length : Bool → ℕ → ℕ → Bool
 is_length used most n = if used then is_between 1 most n else n == 1
 
@@ -62,11 +62,11 @@ level_rules l = (is_between 1 4 l.levels, Levels l.levels) ∷ []
 abbrev pub block_extent : LayoutNumbers → ℕ → ℕ → ℕ
 block_extent l level d = slice_index (block_extents l level) d
 
--- at level 0 a block's extent divides the chunk's, and at a higher level it is a multiple of the extent one level below
+-- at level 0, a block's extent divides the chunk's. At a higher level, it is a multiple of the extent one level below
 abbrev pub nests : LayoutNumbers → ℕ → ℕ → Bool
 nests l level d = if level == 0 then slice_index l.chunk d % block_extent l 0 d == 0 else block_extent l level d % block_extent l (level - 1) d == 0
 
--- in a level that is used a block's extent is from 1 to 2^20 and nests, or is 1 in a dimension that is not used; in a level that is not used it is 0
+-- in a level that is used, a block's extent is from 1 to 2^20 and nests, or is 1 in a dimension that is not used. In a level that is not used, it is 0
 abbrev pub block_is_good : LayoutNumbers → ℕ → ℕ → Bool
 block_is_good l level d =
     let n = block_extent l level d in
@@ -82,7 +82,7 @@ block_rules_of l level = map (block_rule l level) dimensions
 abbrev pub block_rules : LayoutNumbers → List LayoutRule
 block_rules l = flat_map (block_rules_of l) (range_with_len 0 4)
 
--- how many blocks the last level that is used has
+-- how many blocks the last used level has
 abbrev pub coarsest_blocks : LayoutNumbers → ℕ
 coarsest_blocks l = block_count l (l.levels - 1)
 
@@ -105,19 +105,19 @@ layout_rules l =
     ++ chunk_rules l ++ chunk_cell_rules l
     ++ level_rules l ++ block_rules l ++ coarse_rules l ++ all_block_rules l
 
--- from 1 to 2^20
+-- a number from 1 to 2^20
 abbrev pub IsLength : ℕ → Type 0
 IsLength n = (1 ≤ n) × (n ≤ 1048576)
 
--- each of three numbers is
+-- each of three numbers is from 1 to 2^20
 abbrev pub AreLengths : List ℕ → Type 0
 AreLengths ns = (d : ℕ) → d < 3 → IsLength (slice_index ns d)
 
--- each extent of the blocks of each level that is used is
+-- each block extent of each used level is from 1 to 2^20
 abbrev pub HasBlocks : LayoutNumbers → Type 0
 HasBlocks l = (level : ℕ) → level < l.levels → AreLengths (block_extents l level)
 
--- what the rules of a layout say of its numbers
+-- what the rules of a layout say about its numbers
 pub record MeetsRules (l : LayoutNumbers) : Type 0 where
   pub rank_some : 1 ≤ l.rank
   pub rank_few : l.rank ≤ 3
@@ -143,7 +143,7 @@ pub record MeetsRules (l : LayoutNumbers) : Type 0 where
   pub blocks_some : (level : ℕ) → level < l.levels → 1 ≤ block_count l level
   pub blocks_few : (level : ℕ) → level < l.levels → block_count l level ≤ 2097152
 
--- a layout: three dimensions, four levels, and every rule is kept. The law `rules_make_a_layout` says that `rules` is then enough
+-- a layout has three dimensions, four levels, and keeps every rule. By the law `rules_make_a_layout`, these three imply `facts`
 pub record IsLayout (l : LayoutNumbers) : Type 0 where
   pub extents : length l.extents ≡ 3
   pub chunk : length l.chunk ≡ 3

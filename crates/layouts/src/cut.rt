@@ -1,8 +1,8 @@
-//! Chunks that are cut to the array, dimension by dimension. Used where chunks are placed, taken and summed up.
+//! Chunks that are cut to the array, dimension by dimension. Used to place, take and sum up chunks.
 ghost use Rattle.std.specs.Prelude.{◌≡◌};
 
-/// One dimension of a chunk, which is cut to the array: the array's cells from `from` up to but not including `to`
-/// are the first of the chunk's.
+/// One dimension of a chunk that is cut to the array. The array's cells from `from` up to but not including `to` are
+/// the first cells of the chunk.
 #[derive(Clone, Copy, Debug, PartialEq, Eq)]
 pub struct Cut {
     /// The extent of the array, in cells.

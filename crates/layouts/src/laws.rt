@@ -11,7 +11,7 @@ ghost use Rattle.layouts.specs.Chunks.{tile_rect, chunk_count, chunk_rect, chunk
 ghost use Rattle.layouts.specs.Rules.{layout_rules, IsLayout};
 ghost use Rattle.layouts.specs.declared.numbers.LayoutNumbers.{LayoutNumbers};
 
-/// Three dimensions, four levels and every rule kept make a layout: what else `IsLayout` says follows.
+/// Three dimensions, four levels and every rule kept make a layout. All else that `IsLayout` says follows.
 pub fn rules_make_a_layout()
     ensures { (l : LayoutNumbers) → length l.extents ≡ 3 → length l.chunk ≡ 3 → length l.blocks ≡ 4 → All (λ b. length b ≡ 3) l.blocks →
         first_broken (layout_rules l) ≡ None → IsLayout l }
@@ -25,8 +25,7 @@ pub fn tiles_cover()
         rect_contains (tile_rect extents lengths (tile_of extents lengths at)) at ≡ true }
 {}
 
-/// Tiles are cut to the array and share no cell: a cell of a tile is one of the array, and of that tile
-/// alone.
+/// Tiles are cut to the array and share no cell: a cell of a tile is a cell of the array, and of no other tile.
 pub fn tiles_share_nothing()
     ensures cut { (extents lengths : List ℕ) (t : ℕ) (at : List ℕ) → IsTiling extents lengths → t < tile_count extents lengths →
         rect_contains (tile_rect extents lengths t) at ≡ true → in_bounds extents at ≡ true }
@@ -40,8 +39,8 @@ pub fn tiles_have_cells()
         rect_contains (tile_rect extents lengths t) (tile_from extents lengths t) ≡ true }
 {}
 
-/// A tile has each of its cells once: at an index below the number of cells of a tile that is not cut, and at another
-/// index than its other cells.
+/// A tile has each of its cells once, at an index of the cell's own. Indices are below the number of cells of a tile
+/// that is not cut.
 pub fn cells_in_tiles_are_apart()
     ensures below { (extents lengths at : List ℕ) → IsTiling extents lengths → in_bounds extents at ≡ true →
         index_in_tile lengths at < product lengths }
@@ -49,8 +48,8 @@ pub fn cells_in_tiles_are_apart()
         tile_of extents lengths at ≡ tile_of extents lengths other → index_in_tile lengths at ≡ index_in_tile lengths other → at ≡ other }
 {}
 
-/// Tiles nest: where the longer lengths are multiples of the shorter ones, each shorter tile lies inside a
-/// longer one, that of its first cell, and no other longer tile has a cell of it.
+/// Tiles nest. If the longer lengths are multiples of the shorter ones, each shorter tile lies inside the longer tile
+/// that has its first cell, and no other longer tile has a cell of it.
 pub fn tiles_nest()
     ensures tile { (extents shorter longer : List ℕ) (t : ℕ) → IsTiling extents shorter → IsTiling extents longer →
         t < tile_count extents shorter → tile_of extents longer (tile_from extents shorter t) < tile_count extents longer }
@@ -63,8 +62,8 @@ pub fn tiles_nest()
         u ≡ tile_of extents longer (tile_from extents shorter t) }
 {}
 
-/// Blocks nest: each block of a level that is used lies inside one block of the next level, and no other block
-/// of that level has a cell of it.
+/// Blocks nest. Each block of a used level lies inside one block of the next level, and no other block of that level
+/// has a cell of it.
 pub fn blocks_nest()
     ensures block { (l : LayoutNumbers) (level b : ℕ) → IsLayout l → level + 1 < l.levels → b < block_count l level →
         block_above l level b < block_count l (level + 1) }

@@ -13,14 +13,14 @@ use crate::{Cut, LayoutNumbers, LayoutRefusal, tiles};
 use cells::{Rect, Shape};
 use std::marker::Model;
 
-/// How many cells an array has at most, and so how many chunks.
+/// The greatest number of cells of an array, and so of its chunks.
 pub const MOST_CELLS: u32 = 67108864;
 
-/// How many cells a chunk has at most.
+/// The greatest number of cells of a chunk.
 pub const MOST_CHUNK_CELLS: u32 = 65536;
 
-/// How an array lies in chunks, and its levels of blocks. Contracts see it as its numbers. Its type keeps every rule
-/// of a layout (`IsLayout`).
+/// How an array is divided into chunks, and into the blocks of its levels. Contracts see it as its numbers. Its type
+/// keeps every rule of a layout (`IsLayout`).
 #[derive(Clone, Copy, Debug, PartialEq, Eq)]
 pub struct Layout {
     numbers: LayoutNumbers,
@@ -85,7 +85,7 @@ impl Layout {
         self.numbers.chunk
     }
 
-    /// The shape of a chunk, as of an array of its own.
+    /// The shape of a chunk, as if it were an array.
     pub fn chunk_shape(&self) -> Shape
         ensures extents { result.extents ≡ self.now.chunk }
         ensures few { product result.extents ≤ MOST_CHUNK_CELLS }
@@ -103,8 +103,8 @@ impl Layout {
         self.numbers.levels as u8
     }
 
-    /// The extents of a block of a level, in cells, with 1 in a dimension that the array does not use.
-    /// Levels count from 0, the finest; in a level that is not used they are 0.
+    /// The extents of a block of a level, in cells, with 1 in a dimension that the array does not use. Levels count
+    /// from 0, which is the finest. In an unused level the extents are 0.
     pub fn block(&self, level: u8) -> [u32; 3]
         requires { level < 4 }
         ensures { result ≡ chunks.block_extents self.now level }
@@ -166,7 +166,8 @@ impl Layout {
         ]
     }
 
-    /// In which chunk the cell with these coordinates lies, and at which index of it, row-major and padding included.
+    /// The chunk in which the cell with these coordinates lies, and the cell's index in it, row-major and padding
+    /// included.
     pub fn chunk_of(&self, at: [u32; 3]) -> (u32, u32)
         requires { in_bounds self.now.extents at ≡ true }
         ensures chunk { result.0 ≡ chunks.chunk_of self.now at }

@@ -1,4 +1,4 @@
-//! Three lengths from 1 to 2^20: those of an array, of a chunk or of a block.
+//! Three lengths from 1 to 2^20, of an array, a chunk or a block.
 //! Used in this crate by `layout` and `numbers`.
 ghost use Rattle.std.specs.Prelude.{◌≡◌, ◌≤◌};
 ghost use Rattle.lists.specs.Numbers.{product};

@@ -1,5 +1,5 @@
-//! Layouts: how an array lies in chunks, and its levels of blocks. It says exactly which numbers make a layout and by
-//! which rule others are refused, and where each chunk and block lies.
+//! Layouts: how an array is divided into chunks and blocks. It says exactly which numbers make a layout, which rule
+//! refuses others, and where each chunk and block lies.
 //! Definitions: `specs/Chunks` (the chunks and blocks of a layout), `specs/Cuts` (chunks that are cut to the array) and
 //! `specs/Rules` (the rules of a layout, in their order).
 //! Stands on `lists`, `grids` and `cells`; used by `chunk_copies`, `array_file`, `array_text`, `chunk_store` and

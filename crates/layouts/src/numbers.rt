@@ -10,13 +10,13 @@ use crate::LayoutRefusal;
 use crate::layout::{MOST_CELLS, MOST_CHUNK_CELLS};
 use crate::lengths::{product, tile_count};
 
-/// How far the extents of arrays and blocks go.
+/// The greatest extent of an array or a block.
 const MOST_EXTENT: u32 = 1048576;
 
-/// How many blocks the coarsest level has at most.
+/// The greatest number of blocks of the coarsest level.
 const MOST_COARSE_BLOCKS: u64 = 4096;
 
-/// How many blocks all levels have at most.
+/// The greatest number of blocks of all levels together.
 const MOST_BLOCKS: u64 = 2097152;
 
 /// The numbers of a layout, which may break its rules.
@@ -36,7 +36,7 @@ pub struct LayoutNumbers {
 }
 
 impl LayoutNumbers {
-    /// Whether they are those of a layout, or else the refusal of the first rule that they break.
+    /// Whether they make a layout, or else the refusal of the first rule that they break.
     pub(crate) fn check(&self) -> Result<(), LayoutRefusal>
         ensures { Judges (layout_rules self.now) result }
     {
@@ -164,7 +164,7 @@ impl LayoutNumbers {
         Ok(())
     }
 
-    /// Whether a length is from 1 to the most in a dimension that is used, or 1 in one that is not.
+    /// Whether a length is from 1 to the most in a dimension that is used, and 1 in a dimension that is not.
     fn is_length(&self, dim: u8, most: u32, n: u32) -> bool
         ensures { result ≡ rules.is_length (nat_lt dim self.now.rank) most n }
     {
@@ -191,7 +191,8 @@ impl LayoutNumbers {
         }
     }
 
-    /// Whether a block's extent divides the chunk's, or above level 0 is a multiple of the one a level below.
+    /// At level 0, whether a block's extent divides the chunk's. At a higher level, whether it is a multiple of the
+    /// extent one level below.
     fn nests(&self, level: u8, dim: u8) -> bool
         requires level { level < 4 }
         requires dim { dim < 3 }

@@ -33,7 +33,7 @@ pub(crate) fn tile_of(extents: &[u32; 3], lengths: &[u32; 3], at: [u32; 3]) -> u
     grid.index_of([c / m, c_2 / m_2, c_3 / m_3]) as u32
 }
 
-/// The index of a cell within its tile, as in one that is not cut.
+/// The index of a cell within its tile, as if the tile were not cut.
 pub(crate) fn index_in_tile(lengths: &[u32; 3], at: [u32; 3]) -> u32
     requires lengths { All (λ m. 1 ≤ m) lengths.now }
     requires few { product lengths.now ≤ 2 ^ 32 }
@@ -64,7 +64,7 @@ pub(crate) fn tile_rect(extents: &[u32; 3], lengths: &[u32; 3], t: u32) -> Rect
     }
 }
 
-/// Where a tile stands in the grid.
+/// The coordinates of a tile in the grid.
 fn tile_coordinates(extents: &[u32; 3], lengths: &[u32; 3], t: u32) -> [u32; 3]
     requires lengths { All (λ m. 1 ≤ m) lengths.now }
     requires tile { t < tile_count extents.now lengths.now }

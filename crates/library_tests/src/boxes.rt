@@ -24,7 +24,7 @@ fn pair(x: i32, y: i32) -> Point
     point
 }
 
-/// The halves of the box of these domains, where it has two points.
+/// The halves of the box of these domains, if it has two points.
 fn halves_of(doms: &[Dom]) -> Option<(VarBox, VarBox)>
     requires some { 0 < length doms.now }
     requires few { length doms.now ≤ 8 }

@@ -20,7 +20,7 @@ fn long_line() -> Result<Layout, LayoutRefusal> {
     })
 }
 
-/// A source of so many zeros in which this read fails, counted from 1, and each read gives at most `step` bytes.
+/// A source of so many zeros. The read with this number, from 1, fails. Each read gives at most `step` bytes.
 fn opened(alloc: Global, size: usize, read: u64, step: usize) -> Result<MemSource, AllocError> {
     let mut files = Vec::new(alloc);
     let bytes = vec![in alloc; 0u8; size]?;
@@ -93,7 +93,7 @@ fn a_source_that_gives_few_bytes_is_asked_for_the_rest(rt: HostRuntime) -> Resul
 #[test]
 fn each_chunk_of_an_array_is_read_once_in_order(rt: HostRuntime) -> Result<(), Fail> {
     let layout = long_line().expect(&rt, "a layout");
-    // The read that fails, of four; 5 is none.
+    // Which of the four reads fails. 5 is none.
     for fails in 1..=5 {
         let mut src = opened(rt.alloc(), 12096, fails, 0)?;
         let mut other = opened(rt.alloc(), 12096, fails, 0)?;

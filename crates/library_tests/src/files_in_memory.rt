@@ -1,4 +1,4 @@
-//! A source, a sink and a shelf in memory, which lend, make and fail by plan.
+//! A source, a sink and a shelf in memory that lend, make and fail by plan.
 ghost use Rattle.std.specs.Prelude.{◌≡◌, ◌<◌, ◌^◌, None, IfOk};
 
 use source_io::{
@@ -24,7 +24,7 @@ fn two_files(alloc: Global, plan: Plan) -> Result<MemShelf, AllocError>
     Ok(MemShelf::new(alloc, files, plan))
 }
 
-/// Opens the file and reads bytes from its start. Whether all of it was done.
+/// Opens the file and reads bytes from its beginning. Answers whether all of them were read.
 fn read(shelf: &mut MemShelf, name: &str, into: &mut [u8]) -> bool
     requires { (⟦<MemShelf as Shelf>⟧.state shelf.old).lent < 2 ^ 32 }
     ensures lent { (⟦<MemShelf as Shelf>⟧.state shelf.new).lent ≡ (⟦<MemShelf as Shelf>⟧.state shelf.old).lent }
@@ -38,7 +38,7 @@ fn read(shelf: &mut MemShelf, name: &str, into: &mut [u8]) -> bool
     done
 }
 
-/// Creates a file, writes the bytes and finishes it. Whether all of them were written.
+/// Creates a file, writes the bytes and finishes it. Answers whether all of them were written.
 fn keep(shelf: &mut MemShelf, name: &str, bytes: &[u8]) -> Result<bool, OpenFault>
     requires { (⟦<MemShelf as Shelf>⟧.state shelf.old).making ≡ None }
     ensures making { (⟦<MemShelf as Shelf>⟧.state shelf.new).making ≡ None }
@@ -50,7 +50,8 @@ fn keep(shelf: &mut MemShelf, name: &str, bytes: &[u8]) -> Result<bool, OpenFaul
     Ok(whole)
 }
 
-/// What is asked of a shelf, and how it fails: the name, the opening and the read or write that fail, the step, the room.
+/// What is asked of a shelf, and how it fails: the name, which opening and which read or write fail, the step, the
+/// room.
 type Case = (&'static str, u64, (u64, u64), usize, usize);
 
 /// Whether all was read, how many reads were recorded, and the faults of the shelf and of its sources.
@@ -92,10 +93,10 @@ fn reads_fail_by_plan(rt: HostRuntime) -> Result<(), Fail> {
     Ok(())
 }
 
-/// Whether all was written, what then stands under the name, and the faults of the shelf and of its sinks.
+/// Whether all was written, what the file then holds, and the faults of the shelf and of its sinks.
 type Made = (Result<bool, OpenFault>, Option<&'static [u8]>, u64, u64);
 
-/// Writes `abcdef` under the name. Whether all of it was written, and the shelf.
+/// Writes `abcdef` under the name. Gives whether all of it was written, and the shelf.
 fn made(
     alloc: Global,
     (name, opens, writes, step, room): Case,
@@ -141,7 +142,7 @@ fn lends_what_it_made(rt: HostRuntime) -> Result<(), Fail> {
     let mut shelf = two_files(rt.alloc(), plan)?;
     let mut bytes = [0; 2];
     assert!(rt; read(&mut shelf, "two", &mut bytes));
-    // Openings and creatings are numbered together, so that this one fails.
+    // Openings and creatings are numbered together, so this one fails.
     assert_eq!(rt; keep(&mut shelf, "new", b"abc"), Err(OpenFault::Failed));
     assert_eq!(rt; keep(&mut shelf, "new", b"abc"), Ok(true));
     assert!(rt; read(&mut shelf, "new", &mut bytes));

@@ -14,7 +14,7 @@ fn own_path(rt: &HostRuntime, name: &str) -> Result<PathBuf, Fail> {
     Ok(env::temp_dir(rt)?.join(rt.alloc(), own.as_str())?)
 }
 
-/// So many bytes, each other than those near it.
+/// This many bytes. Bytes near each other differ.
 fn pattern(alloc: Global, n: usize) -> Result<Vec<u8>, Fail> {
     let mut bytes = Vec::new(alloc);
     for i in 0..n {
@@ -23,7 +23,7 @@ fn pattern(alloc: Global, n: usize) -> Result<Vec<u8>, Fail> {
     Ok(bytes)
 }
 
-/// Why a name was not opened; where it was, its source is handed back.
+/// Why a name was not opened. If it was opened, its source is handed back.
 fn fault_of(shelf: &mut FileShelf<HostRuntime>, name: &str) -> Option<OpenFault>
     requires { shelf.old.lent < 2 ^ 32 }
     ensures { shelf.new.lent ≡ shelf.old.lent }
@@ -37,7 +37,7 @@ fn fault_of(shelf: &mut FileShelf<HostRuntime>, name: &str) -> Option<OpenFault>
     }
 }
 
-/// Creates a file, writes the bytes and finishes it. Whether all of them were written.
+/// Creates a file, writes the bytes and finishes it. Answers whether all of them were written.
 fn keep(shelf: &mut FileShelf<HostRuntime>, name: &str, bytes: &[u8]) -> Result<bool, OpenFault>
     requires { shelf.old.making ≡ None }
     ensures { shelf.new.making ≡ None }
@@ -66,7 +66,8 @@ fn reads_on_and_elsewhere_give_the_bytes_of_their_offsets(rt: HostRuntime) -> Re
     let mut source = shelf.open(path.as_str()).expect(&rt, "the file opens");
     let mut right = true;
 
-    // One after the other, through several buffers full; back, into what was read ahead; to the end; elsewhere.
+    // Reads one after the other, through several full buffers; then back, into what was read ahead; to the end; and
+    // elsewhere.
     for at in [
         0, 4096, 8192, 69000, 73096, 77192, 73100, 69000, 149_990, 143_000, 147_096, 5,
     ] {

@@ -1,4 +1,4 @@
-//! Commands run on a shelf in memory in which one call fails after the other, or each does little.
+//! Commands on a shelf in memory in which one call after the other fails, or each does little.
 ghost use Rattle.std.specs.Prelude.{◌≡◌, None, IfOk};
 
 use search_run::run_tool;
@@ -14,13 +14,13 @@ const ARRAY: &[u8; 128] =
 const QUERY: &str =
     r#"{"variables":[{"name":"x","from":0,"to":7}],"regions":[{"name":"r","at":["x"],"length":[2]}],"constraints":[{"agg":"sum","of":"r","cmp":"ge","to":9}]}"#;
 
-/// What is found: those at 5 and 6, with the sums 14 and 11.
+/// The solutions: the windows at 5 and 6, with the sums 14 and 11.
 const FOUND: &str = "x=5\nx=6\n";
 
-/// The same array as text, of 63 bytes.
+/// The same array as text. It has 63 bytes.
 const TEXT: &str = "rank 1 extent 8 chunk 4 level 2 level 4 cells 3 -1 4 1 . 5 9 2\n";
 
-/// What is told of it.
+/// The lines of `info` on it.
 const INFO: &str =
     "rank 1\nextent 8\nchunk 4\nchunks 2\nlevel 0 block 2 grid 4\nlevel 1 block 4 grid 2\ncells 8 present 7 least -1 greatest 9 sum 23\n";
 
@@ -74,7 +74,7 @@ impl Ran {
         }
     }
 
-    /// Whether it ended with this fault, printed nothing, handed all back and made no file `new`.
+    /// Whether it ended with this fault, printed nothing, handed all files back and made no file `new`.
     fn failed(&self, status: u8, said: &[u8]) -> bool {
         self.shows() == (status, b"".as_slice(), said)
             && self.shelf.lent() == 0
@@ -82,8 +82,8 @@ impl Ran {
     }
 }
 
-/// Runs the words of a line by a plan, with an output that takes `step` bytes a write, where 0 means all, and in
-/// which this write fails.
+/// Runs the words of a line by a plan. The output takes `step` bytes a write, where 0 means all, and the write with
+/// this number fails.
 fn run_line(alloc: Global, line: &str, plan: Plan, step: usize, fails: u64) -> Result<Ran, Fail> {
     let mut words = Vec::new(alloc);
     for word in line.split_whitespace() {
@@ -101,8 +101,8 @@ fn run_line(alloc: Global, line: &str, plan: Plan, step: usize, fails: u64) -> R
     })
 }
 
-/// A plan by which a read or a write takes `step` bytes, and these fail: an opening, and a read and a write, each by
-/// the number of its opening and its own.
+/// A plan in which a read or a write takes `step` bytes. One opening, one read and one write fail. A read and a write
+/// are given by the number of the opening and their own number.
 fn plan_of(
     alloc: Global,
     step: usize,
@@ -120,7 +120,7 @@ fn plan_of(
 
 #[test]
 fn each_opening_that_fails_is_a_read_fault(rt: HostRuntime) -> Result<(), Fail> {
-    // The line, the opening or creating that fails, and how many there are in all.
+    // The line, the number of the opening or creating that fails, and how many there are.
     let cases = [
         ("solo a q", 2),
         ("verify a q", 2),
@@ -140,8 +140,8 @@ fn each_opening_that_fails_is_a_read_fault(rt: HostRuntime) -> Result<(), Fail> 
 
 #[test]
 fn each_read_that_fails_is_a_read_fault(rt: HostRuntime) -> Result<(), Fail> {
-    // The line, how many bytes a read takes, where 0 means all, the opening, and how many reads there are of it. Of
-    // the array there are 96 bytes of header and twice 16 of cells, read one after the other.
+    // The line, how many bytes a read takes, where 0 means all, the opening, and how many reads it has. The array has a
+    // header of 96 bytes and twice 16 bytes of cells, which are read one after the other.
     let cases = [
         ("solo a q", 0, 1, 3),
         ("solo a q", 0, 2, 1),
@@ -170,7 +170,7 @@ fn each_read_that_fails_is_a_read_fault(rt: HostRuntime) -> Result<(), Fail> {
     Ok(())
 }
 
-/// The status, and what is said, of a run that makes so many writes, where this one fails.
+/// The status and the message of a run that makes so many writes, of which this one fails.
 fn ending_of(fails: u64, writes: usize) -> (u8, &'static [u8]) {
     if fails > writes as u64 {
         (0, b"")
@@ -242,7 +242,7 @@ fn the_header_is_read_before_the_query_and_the_cells(rt: HostRuntime) -> Result<
     Ok(())
 }
 
-// A trial in which one taking of memory fails ends with 7 and part of the output, and with ample memory none does.
+// A trial in which one taking of memory fails ends with 7 and a part of the output. With ample memory, none does.
 #[test]
 fn memory_that_runs_out_leaves_a_prefix_of_the_output(rt: HostRuntime) -> Result<(), Fail> {
     let plan = Plan::calm(rt.alloc(), 1000);

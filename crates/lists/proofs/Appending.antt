@@ -44,7 +44,7 @@ prefix_within old new xs ys h = (h.0, (h.1.0 ++ ys, sym (append_assoc h.0 h.1.0 
 
 -- ---- one piece, in parts
 
--- m items more of a piece of which n were appended
+-- m more items of a piece of which n were appended
 pub appended_more : {X : Type 0} (old mid new : Option (List X)) (piece : List X) (n m k : ℕ) → mid ≡ appended old (take n piece) → m ≤ k → new ≡ appended mid (take m (take k (drop n piece))) → new ≡ appended old (take (n + m) piece)
 appended_more old mid new piece n m k before short wrote =
     wrote ∙ ap (appended mid) (take-take m k (drop n piece) short) ∙ ap (λ known. appended known (take m (drop n piece))) before
@@ -62,7 +62,7 @@ module _ {X Y : Type 0} (f : X → List Y) (xs : List X) (i : ℕ) (x : X) (belo
       ap (flat_map f) (take_more xs i x below) ∙ flat_map-append f (take i xs) (get_or xs i x ∷ [])
       ∙ ap (λ l. flat_map f (take i xs) ++ l) (append-nil (f (get_or xs i x)) ∙ ap f (sym is_x))
 
-  -- the piece of one item more
+  -- the piece of one more item
   pub pieces_more : (old mid new : Option (List Y)) → mid ≡ appended old (flat_map f (take i xs)) → new ≡ appended mid (f x) → new ≡ appended old (flat_map f (take (i + 1) xs))
   pieces_more old mid new before wrote =
       wrote ∙ ap (λ known. appended known (f x)) before ∙ appended-appended old (flat_map f (take i xs)) (f x) ∙ ap (appended old) (sym flat_map-take_more)

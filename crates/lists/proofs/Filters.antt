@@ -50,7 +50,7 @@ map-agree f g (x ∷ xs) h = (λ i. h x (inl refl) i ∷ map-agree f g xs (λ y 
 
 -- ---- tests as parts
 
--- the items that fail give nothing
+-- items that fail give nothing
 pub flat_map-cond : {X Y : Type 0} (q : X → Bool) (f : X → List Y) (xs : List X) → flat_map (λ x. cond (q x) (f x) []) xs ≡ flat_map f (filter q xs)
 flat_map-cond q f [] = refl
 flat_map-cond q f (x ∷ xs) = ap (λ l. cond (q x) (f x) [] ++ l) (flat_map-cond q f xs) ∙ by_test (q x)

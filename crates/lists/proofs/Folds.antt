@@ -29,9 +29,9 @@ sum_of-append xs ys =
     let e : sum_of xs ≡ sum_of xs +ℤ pos 0 = omega (arith, ints) in
     fold-append ◌+ℤ◌ (pos 0) xs ys ∙ ap (λ z. fold ◌+ℤ◌ z ys) e ∙ fold-op ◌+ℤ◌ add-add (sum_of xs) (pos 0) ys
 
--- ---- one number more
+-- ---- one more number
 
--- the least so far and the next number, where neither is above what stands for none
+-- the least so far and the next number, neither of which is above `most`
 pub least_of-more : (xs : List ℤ) (o : Option ℤ) (most : ℤ) → unwrap_or (least_of xs) most ≤ℤ most → unwrap_or o most ≤ℤ most
     → unwrap_or (least_of (xs ++ cons_option o [])) most ≡ int_min (unwrap_or (least_of xs) most) (unwrap_or o most)
 least_of-more xs None most below next = ap (λ l. unwrap_or (least_of l) most) (append-nil xs) ∙ omega (arith, ints, clamps, below)

@@ -45,7 +45,7 @@ filter-range_with_len p from to n ordered within before inside behind =
     ∙ append-nil (range_with_len (0 + from) (to - from))
     ∙ ap (λ k. range_with_len k (to - from)) zero_from
 
--- the items that are there at a range of places are those of that part of the list
+-- the items at a range of indices are the items of that part of the list
 pub items-range_with_len : {X : Type 0} (xs : List (Option X)) (from n : ℕ) → from + n ≤ length xs
     → filter_map (λ k. option_and_then (λ (x : Option X). x) (slice_get xs k)) (range_with_len from n) ≡ filter_map (λ x. x) (take n (drop from xs))
 items-range_with_len xs from zero h = refl
@@ -84,7 +84,7 @@ range_with_len-times a (suc n) p =
     ap (range_with_len (a * p)) size ∙ range_with_len-add (a * p) p (n * p)
     ∙ (λ i. (ap (λ k. range_with_len k p) start ∙ range_with_len-shift (a * p) 0 p) i ++ (ap (λ k. range_with_len k (n * p)) next ∙ range_with_len-times (a + 1) n p) i)
 
--- parts that are counted from a place on
+-- parts that are counted from an index on
 pub flat_map-from : {X : Type 0} (f : ℕ → List X) (from a n : ℕ) → flat_map (λ c. f (c - from)) (range_with_len (from + a) n) ≡ flat_map f (range_with_len a n)
 flat_map-from f from a zero = refl
 flat_map-from f from a (suc n) =

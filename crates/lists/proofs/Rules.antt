@@ -26,7 +26,7 @@ none_broken (r ∷ rs) h = rw h.0 (none_broken rs h.1)
 
 -- ---- the first of two groups of rules
 
--- where the first group is kept, the second one decides
+-- if the first group is kept, the second one decides
 pub first_broken-kept : {R : Type 0} (xs ys : List (Rule R)) → first_broken xs ≡ None → first_broken (xs ++ ys) ≡ first_broken ys
 first_broken-kept [] ys e = refl
 first_broken-kept (r ∷ rs) ys e =
@@ -37,12 +37,12 @@ broken_first : {R : Type 0} (b : Bool) (one refusal : R) (rs ys : List (Rule R))
 broken_first true one refusal rs ys others e = others e
 broken_first false one refusal rs ys others e = e
 
--- where it is not, it decides itself
+-- if it is not, it decides itself
 pub first_broken-broken : {R : Type 0} (xs ys : List (Rule R)) (refusal : R) → first_broken xs ≡ Some refusal → first_broken (xs ++ ys) ≡ Some refusal
 first_broken-broken [] ys refusal e = absurd (cc)
 first_broken-broken (r ∷ rs) ys refusal e = broken_first r.0 r.1 refusal rs ys (first_broken-broken rs ys refusal) e
 
--- where both are kept, the first one is
+-- if both are kept, the first one is kept
 first_kept_of : {R : Type 0} (o : Option R) (xs ys : List (Rule R)) → first_broken xs ≡ o → first_broken (xs ++ ys) ≡ None → o ≡ None
 first_kept_of None xs ys e both = refl
 first_kept_of (Some refusal) xs ys e both = absurd (none-some refusal (sym both ∙ first_broken-broken xs ys refusal e))
@@ -50,13 +50,13 @@ first_kept_of (Some refusal) xs ys e both = absurd (none-some refusal (sym both 
 pub first_kept : {R : Type 0} (xs ys : List (Rule R)) → first_broken (xs ++ ys) ≡ None → first_broken xs ≡ None
 first_kept xs ys both = first_kept_of (first_broken xs) xs ys refl both
 
--- and so is the second
+-- and the second one is kept
 pub second_kept : {R : Type 0} (xs ys : List (Rule R)) → first_broken (xs ++ ys) ≡ None → first_broken ys ≡ None
 second_kept xs ys both = sym (first_broken-kept xs ys (first_kept xs ys both)) ∙ both
 
 -- ---- many groups of rules
 
--- groups that are kept one after the other are kept
+-- if each group is kept, all of them together are kept
 groups_kept : {R : Type 0} (group : ℕ → List (Rule R)) (n a : ℕ) → ((k : ℕ) → a ≤ k → k < a + n → first_broken (group k) ≡ None)
     → first_broken (flat_map group (range_with_len a n)) ≡ None
 groups_kept group zero a kept = refl
@@ -79,7 +79,7 @@ groups_broken group refusal (suc n) a (suc k) kept below e =
     ∙ groups_broken group refusal n (a + 1) k (λ j from before. kept j (omega arith) (omega arith)) (omega arith)
     (subst (λ j. first_broken (group j) ≡ Some refusal) there e))
 
--- and each of them is kept where all are
+-- if all are kept, each of them is kept
 groups_kept_each : {R : Type 0} (group : ℕ → List (Rule R)) (n a k : ℕ) → first_broken (flat_map group (range_with_len a n)) ≡ None → k < n
     → first_broken (group (a + k)) ≡ None
 groups_kept_each group zero a k e below = absurd (omega arith)
@@ -132,7 +132,7 @@ abbrev pub GroupsKept : {R : Type 0} → List (List (Rule R)) → Type 0
 GroupsKept [] = Unit {0}
 GroupsKept (g ∷ gs) = (first_broken g ≡ None) × GroupsKept gs
 
--- where the groups before are kept, the rest decides
+-- if the groups before are kept, the rest decides
 before_kept : {R : Type 0} (before after : List (List (Rule R))) → GroupsKept before → first_broken (all_of (before ++ after)) ≡ first_broken (all_of after)
 before_kept [] after kept = refl
 before_kept {R = R} (g ∷ gs) after kept =
@@ -143,13 +143,13 @@ pub broken_group : {R : Type 0} (before : List (List (Rule R))) (g : List (Rule 
     → first_broken (all_of (before ++ g ∷ after)) ≡ Some refusal
 broken_group before g after refusal kept e = before_kept before (g ∷ after) kept ∙ first_broken-broken g (all_of after) refusal e
 
--- and the last group decides, where those before it are kept
+-- if the groups before the last are kept, the last one decides
 pub last_group : {A R : Type 0} (before : List (List (Rule R))) (g : List (Rule R)) (result : Result A R) → GroupsKept before → Judges g result
     → Judges (all_of (before ++ g ∷ [])) result
 last_group before g (Ok x) kept e = before_kept before (g ∷ []) kept ∙ first_broken-kept g [] e
 last_group before g (Err refusal) kept e = broken_group before g [] refusal kept e
 
--- where all are kept, so is each of them
+-- if all are kept, each of them is kept
 pub groups_of_kept : {R : Type 0} (groups : List (List (Rule R))) → first_broken (all_of groups) ≡ None → GroupsKept groups
 groups_of_kept [] e = tt
 groups_of_kept {R = R} (g ∷ gs) e =

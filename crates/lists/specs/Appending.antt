@@ -1,8 +1,8 @@
--- What is appended to a list that may be unknown. An unknown list is `None`, and stays so.
--- Used where an object outside is told or not: what a sink took, and which names a shelf opened.
+-- What is appended to a list that may be unknown. An unknown list is `None`, and stays `None`.
+-- Used for objects of the outside, which may tell nothing: what a sink took, and which names a shelf opened.
 use Rattle.std.specs.Prelude.{◌≡◌, List, ◌++◌, Option, option_map}
 
--- a list with some items at its end, where it is known
+-- a list with some items at its end, if the list is known
 abbrev pub appended : {X : Type 0} → Option (List X) → List X → Option (List X)
 appended old items = option_map (λ all. all ++ items) old
 
@@ -10,6 +10,6 @@ appended old items = option_map (λ all. all ++ items) old
 abbrev pub IsPrefixOf : {X : Type 0} → List X → List X → Type 0
 IsPrefixOf {X} prefix all = (rest : List X) × (prefix ++ rest ≡ all)
 
--- a prefix of some items was appended, where the list is known
+-- a prefix of some items was appended, if the list is known
 abbrev pub AppendsPrefix : {X : Type 0} → Option (List X) → List X → Option (List X) → Type 0
 AppendsPrefix {X} old items new = (prefix : List X) × IsPrefixOf prefix items × (new ≡ appended old prefix)

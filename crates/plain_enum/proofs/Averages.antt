@@ -24,7 +24,7 @@ wide_product a b a_fits b_fits =
     let product : SFits w128 (a *ℤ b) = fits_signed_mul w128 a b (2 ^ 63) (2 ^ 63) (abs_of_64_bits a a_fits) (abs_of_64_bits b b_fits) (lit< tt) in
     simp to_z-of_z refl
 
--- the same where one is a count
+-- the same if one is a count
 pub wide_count : (a : ℤ) (n : ℕ) → SFits w64 a → n < 2 ^ 32
     → to_z w128 (of_z w128 (to_z w128 (of_z w128 (to_z w64 (of_z w64 a))) *ℤ to_z w128 n)) ≡ a *ℤ pos n
 wide_count a n fits few =

@@ -27,9 +27,9 @@ fn holds_of(c: Compare, order: Ordering) -> bool
     }
 }
 
-/// Whether an aggregate of some numbers compares so with a fraction, by the record of the numbers. The numbers of
-/// a record and of a fraction fit 64 bits. The two sides of an average are up to 2^20 times 2^57 and 2^52 times
-/// 2^26, and so are computed in 128 bits.
+/// Whether the comparison of an aggregate with a fraction holds, by the record of the numbers. The numbers of a record
+/// and of a fraction fit in 64 bits. The two sides of an average are at most 2^20 times 2^57 and 2^52 times 2^26, so
+/// they are computed in 128 bits.
 fn aggregate_compares(agg: Agg, c: Compare, r: &Record, to: &Fraction) -> bool
     ensures { (numbers : List ℤ) → r.now ≡ record_of numbers →
         result ≡ constraint.aggregate_compares agg c numbers to.now }
@@ -70,8 +70,8 @@ fn holds(query: &Query, shape: &Shape, cells: &[Cell], p: &Point, c: &Constraint
     }
 }
 
-/// Whether a point is a solution of a query on an array of the query's rank, with this shape and these cells
-/// in row-major order: whether every constraint holds there.
+/// Whether a point is a solution of a query on an array of the query's rank, with this shape and these cells in
+/// row-major order. It is if every constraint holds at it.
 pub fn holds_plain(query: &Query, shape: &Shape, cells: &[Cell], p: &Point) -> bool
     requires cells { length cells.now ≡ product shape.now.extents }
     requires few { length cells.now ≤ 2 ^ 26 }

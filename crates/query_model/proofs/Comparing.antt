@@ -99,7 +99,7 @@ mean_compares-scaled c (x ∷ xs) to k some =
 pub average-scaled : (a : Array) (sides : List Side) (c : Compare) (to : Fraction) (k : ℕ) → 1 ≤ k → aggregate_holds a sides Avg c (scaled k to) ≡ aggregate_holds a sides Avg c to
 average-scaled a sides c to k some = ap (λ b. is_proper a.extents sides && b) (mean_compares-scaled c (present_cells a sides) to k some)
 
--- ---- where there is nothing
+-- ---- regions with no present cells
 
 pub improper_fails : (a : Array) (sides : List Side) (agg : Agg) (c : Compare) (to : Fraction) → is_proper a.extents sides ≡ false → aggregate_holds a sides agg c to ≡ false
 improper_fails a sides agg c to improper = ap (λ b. b && aggregate_compares agg c (present_cells a sides) to) improper

@@ -17,7 +17,7 @@ use Rattle.query_model.specs.declared.query.Query.{Query}
 use Rattle.domains.specs.Points.{Point}
 use Rattle.query_model.specs.Value.{value_of, region_at}
 
--- x compares so with y
+-- the comparison holds of x and y
 abbrev pub compares : Compare → ℤ → ℤ → Bool
 compares Le x y = int_le x y
 compares Lt x y = int_lt x y
@@ -25,17 +25,17 @@ compares Ge x y = int_le y x
 compares Gt x y = int_lt y x
 compares Eq x y = int_le x y && int_le y x
 
--- there is an x, and it compares so with y
+-- there is an x, and the comparison holds of x and y
 abbrev pub compares_where_defined : Compare → Option ℤ → ℤ → Bool
 compares_where_defined c None y = false
 compares_where_defined c (Some x) y = compares c x y
 
--- there are numbers, and their mean compares so with p / q: their sum times q to p times their count
+-- there are numbers, and the comparison holds of their mean and p / q: of their sum times q, and p times their count
 abbrev pub mean_compares : Compare → List ℤ → Fraction → Bool
 mean_compares c [] to = false
 mean_compares c (x ∷ xs) to = compares c (to.q *ℤ sum_of (x ∷ xs)) (to.p *ℤ count_of (x ∷ xs))
 
--- the aggregate of these numbers compares so with the fraction, which is a whole number but for `avg`
+-- the comparison holds of the aggregate of these numbers and the fraction, which is a whole number unless the aggregate is `avg`
 abbrev pub aggregate_compares : Agg → Compare → List ℤ → Fraction → Bool
 aggregate_compares Sum c numbers to = compares c (sum_of numbers) to.p
 aggregate_compares Count c numbers to = compares c (count_of numbers) to.p
@@ -43,7 +43,7 @@ aggregate_compares Min c numbers to = compares_where_defined c (least_of numbers
 aggregate_compares Max c numbers to = compares_where_defined c (greatest_of numbers) to.p
 aggregate_compares Avg c numbers to = mean_compares c numbers to
 
--- the region is proper, and the aggregate of its present cells compares so
+-- the region is proper, and the comparison holds of the aggregate of its present cells and the number
 abbrev pub aggregate_holds : Array → List Side → Agg → Compare → Fraction → Bool
 aggregate_holds a sides agg c to = is_proper a.extents sides && aggregate_compares agg c (present_cells a sides) to
 
@@ -56,6 +56,6 @@ holds a q p (Aggregate agg r c to) = option_map_or (λ region. aggregate_holds a
 abbrev pub is_solution : Array → Query → Point → Bool
 is_solution a q p = list_all (holds a q p) q.constraints
 
--- the same fraction with both its numbers k times as large
+-- the same fraction, with both numbers k times as large
 abbrev pub scaled : ℕ → Fraction → Fraction
 scaled k to = record { p = pos k *ℤ to.p; q = pos k *ℤ to.q }

@@ -12,7 +12,7 @@ begins_name b = (nat_le 65 b && nat_le b 90) || (nat_le 97 b && nat_le b 122) ||
 abbrev pub continues_name : ℕ → Bool
 continues_name b = begins_name b || (nat_le 48 b && nat_le b 57)
 
--- 1 to 32 such bytes, the first of them no digit
+-- 1 to 32 such bytes, the first of which is not a digit
 abbrev pub is_name : List ℕ → Bool
 is_name text = nat_le 1 (length text) && nat_le (length text) 32 && begins_name (slice_index text 0) && list_all continues_name text
 

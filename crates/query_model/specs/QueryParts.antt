@@ -5,7 +5,7 @@ use Rattle.query_model.specs.declared.parts.Variable.{Variable}
 use Rattle.query_model.specs.declared.parts.Region.{Region}
 use Rattle.query_model.specs.declared.parts.Constraint.{Constraint}
 
--- the rank of the arrays that it is for, and its variables, regions and constraints
+-- the rank of the arrays for which it is, and its variables, regions and constraints
 pub record QueryParts : Type 0 where
   pub rank : ℕ
   pub variables : List Variable

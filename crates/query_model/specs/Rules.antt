@@ -22,11 +22,11 @@ pub record IsTerm (n : ℕ) (t : Term) : Type 0 where
   pub factor : unsigned_abs t.factor ≤ 1024
   pub var : t.var < n
 
--- what stands in the place of a term that does not count
+-- the term in place of one that does not count
 abbrev pub no_term : Term
 no_term = record { factor = pos 0; var = 0 }
 
--- its constant is within 2^31, and of its 8 terms those that count are of n variables, each at most once, and the others are nothing
+-- its constant is within 2^31. Of its 8 terms, those that count are of n variables, each at most once, and the others are zero
 pub record IsExpr (n : ℕ) (e : Expr) : Type 0 where
   pub constant : IsWithin e.constant (2 ^ 31)
   pub count : e.count ≤ 8
@@ -46,7 +46,7 @@ pub record IsVariable (v : Variable) : Type 0 where
   pub from : IsWithin v.from (2 ^ 20)
   pub to : IsWithin v.to (2 ^ 20)
 
--- its name has the form of names, its expressions are of n variables, and a dimension that is not used begins at 0 and has length 1
+-- its name has the form of names, and its expressions are of n variables. A dimension that is not used begins at 0 and has length 1
 pub record IsRegion (rank n : ℕ) (r : Region) : Type 0 where
   pub name : IsName r.name
   pub at : All (IsExpr n) r.at
@@ -54,14 +54,14 @@ pub record IsRegion (rank n : ℕ) (r : Region) : Type 0 where
   pub unused_at : drop rank r.at ≡ replicate (3 - rank) (constant_expr (pos 0))
   pub unused_length : drop rank r.length ≡ replicate (3 - rank) (constant_expr (pos 1))
 
--- the number of an average is p / q with q up to 2^20, and any other a whole number; p is within 2^52
+-- the number of an average is p / q with q up to 2^20. The number of any other aggregate is whole. p is within 2^52
 pub record IsFraction (whole : Type 0) (to : Fraction) : Type 0 where
   pub p : IsWithin to.p (2 ^ 52)
   pub some : pos 1 ≤ℤ to.q
   pub few : to.q ≤ℤ pos (2 ^ 20)
   pub whole_number : whole → to.q ≡ pos 1
 
--- the aggregate is of whole numbers, as all are but the average
+-- the aggregate is of whole numbers: all are, except the average
 abbrev pub IsWhole : Agg → Type 0
 IsWhole Sum = Unit {0}
 IsWhole Min = Unit {0}
@@ -69,7 +69,7 @@ IsWhole Max = Unit {0}
 IsWhole Count = Unit {0}
 IsWhole Avg = ⊥
 
--- its expression is of n variables, or its region one of m, and its number is within the limits
+-- its expression is of n variables, or its region is one of m, and its number is within the limits
 abbrev pub IsConstraint : ℕ → ℕ → Constraint → Type 0
 IsConstraint n m (Linear e c to) = IsExpr n e × IsWithin to (2 ^ 31)
 IsConstraint n m (Aggregate agg r c to) = (r < m) × IsFraction (IsWhole agg) to

@@ -32,6 +32,6 @@ line_of q p = join_with_byte 32 (fields_of q.variables p) ++ codes "\n"
 abbrev pub lines_of : Query → List Point → List ℕ
 lines_of q points = flat_map (line_of q) points
 
--- what is printed of a query on an array
+-- what is printed for a query on an array
 abbrev pub text_of : Array → Query → List ℕ
 text_of a q = lines_of q (answer a q)

@@ -34,7 +34,7 @@ impl Expr {
     }
 }
 
-/// The side that begins at the value of one expression and is as long as that of another.
+/// The side that begins at the value of one expression and has the value of another as its length.
 fn side(at: &Expr, extent: &Expr, p: &Point) -> Side
     requires at { IsBounded (length p.now) at.now }
     requires extent { IsBounded (length p.now) extent.now }

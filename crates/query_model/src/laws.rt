@@ -1,5 +1,5 @@
-//! What an answer is, in the words of the subject. Each law is the contract of a function that does no more than call
-//! other laws. They say in plain words what `specs/Answer` and `specs/Constraint` come to; no crate calls them yet.
+//! What an answer is, in the words of the subject. Each law is the contract of a function that only calls other laws.
+//! They say in plain words what follows from `specs/Answer` and `specs/Constraint`. No crate calls them yet.
 
 ghost use Rattle.std.specs.Prelude.{◌≡◌, ◌≤◌, ◌↔◌, ℕ, pos, false, List, [], AllPairs, Contains};
 ghost use Rattle.std.specs.List.{AllPass};
@@ -24,17 +24,16 @@ pub fn answer_rises()
     points_rise();
 }
 
-/// A point is in the answer exactly where it is in the box of the variables' ranges and every
-/// constraint holds at it. Source: a solution satisfies all constraints (Apt, "Principles of Constraint
-/// Programming", 2003).
+/// A point is in the answer exactly if it is in the box of the variables' ranges and every constraint holds at it.
+/// Source: a solution satisfies all constraints (Apt, "Principles of Constraint Programming", 2003).
 pub fn answer_is_all_solutions()
     ensures { (a : Array) (q : Query) (p : Point) → Contains (answer a q) p ↔ (IsInBox (box_of q) p × AllPass (holds a q p) q.constraints) }
 {
     points_are_in_box();
 }
 
-/// A constraint on an average holds at the same regions for equal fractions: p / q, and both numbers k
-/// times as large.
+/// A constraint on an average holds for the same regions with equal fractions: p / q, and both numbers k times as
+/// large.
 pub fn averages_go_by_the_fraction()
     ensures { (a : Array) (sides : List Side) (c : Compare) (to : Fraction) (k : ℕ) → 1 ≤ k →
         aggregate_holds a sides Agg.Avg c (scaled k to) ≡ aggregate_holds a sides Agg.Avg c to }
@@ -46,13 +45,13 @@ pub fn improper_regions_fail()
         is_proper a.extents sides ≡ false → aggregate_holds a sides agg c to ≡ false }
 {}
 
-/// Where a region has no present cell, their sum and their number are 0.
+/// If a region has no present cell, their sum and their number are 0.
 pub fn nothing_sums_to_zero()
     ensures { (a : Array) (sides : List Side) → present_cells a sides ≡ [] →
         (sum_of (present_cells a sides) ≡ pos 0) × (count_of (present_cells a sides) ≡ pos 0) }
 {}
 
-/// Where a region has no present cell, no constraint on its least, its greatest or its average holds.
+/// If a region has no present cell, no constraint on its least, its greatest or its average holds.
 pub fn undefined_aggregates_fail()
     ensures { (a : Array) (sides : List Side) (c : Compare) (to : Fraction) → present_cells a sides ≡ [] →
         (aggregate_holds a sides Agg.Min c to ≡ false)

@@ -1,5 +1,5 @@
-//! Queries as data within their limits, the values of their expressions, and what they mean. A `Query` keeps every
-//! rule of a query, so that whoever holds one need not test it. Nothing here takes memory.
+//! Queries as data within their limits, the values of their expressions, and what they mean. A `Query` keeps every rule
+//! of a query, so a function that takes one need not test it. Nothing here takes memory.
 //!
 //! Definitions: `specs/QueryParts` and `specs/Rules` (the rules that a query keeps), `specs/NameForm`, `specs/Value`
 //! and `specs/Bounded` (expressions and regions at a point), `specs/Constraint` (when a constraint holds),

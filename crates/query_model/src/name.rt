@@ -6,7 +6,7 @@ ghost use Rattle.query_model.specs.Text.{name_bytes};
 use crate::Name;
 
 impl Name {
-    /// The name with these bytes: 1 to 32 ASCII letters, digits and underscores, no digit first.
+    /// The name with these bytes: 1 to 32 ASCII letters, digits and underscores, the first of which is not a digit.
     #[tactic(auto, using(crate::proofs::Names::is_name_short))]
     pub fn from_bytes(text: &[u8]) -> Name
         requires { is_name text.now ≡ true }

@@ -1,12 +1,11 @@
 //! The parts of queries, as plain data: clauses see them as their numbers and lists. `query_text` makes them.
 
-/// A name of 1 to 32 bytes, an ASCII letter or `_` and then letters, digits and `_`. The bytes after
-/// its length are 0.
+/// A name of 1 to 32 bytes: an ASCII letter or `_`, and then letters, digits and `_`. The bytes after its length are 0.
 #[derive(Clone, Copy, Debug, PartialEq, Eq)]
 pub struct Name {
     /// How many of the bytes the name has.
     pub len: u8,
-    /// The bytes, and zeros.
+    /// The bytes of the name, and zeros after them.
     pub bytes: [u8; 32],
 }
 
@@ -24,11 +23,11 @@ pub struct Expr {
     pub constant: i64,
     /// How many of the terms count.
     pub count: u8,
-    /// The terms, and after them terms of factor 0.
+    /// The terms. After the first `count`, they have the factor 0.
     pub terms: [Term; 8],
 }
 
-/// How one number has to compare with another.
+/// How one number compares with another.
 #[derive(Clone, Copy, Debug, PartialEq, Eq)]
 pub enum Compare {
     /// At most.
@@ -43,18 +42,18 @@ pub enum Compare {
     Eq,
 }
 
-/// What is computed of the present cells of a region.
+/// What is computed from the present cells of a region.
 #[derive(Clone, Copy, Debug, PartialEq, Eq)]
 pub enum Agg {
-    /// Their total, 0 for none.
+    /// Their total, 0 if there are none.
     Sum,
-    /// The smallest, undefined for none.
+    /// The smallest, undefined if there are none.
     Min,
-    /// The largest, undefined for none.
+    /// The largest, undefined if there are none.
     Max,
     /// How many there are.
     Count,
-    /// Their mean, undefined for none.
+    /// Their mean, undefined if there are none.
     Avg,
 }
 
@@ -63,11 +62,11 @@ pub enum Agg {
 pub struct Fraction {
     /// The numerator.
     pub p: i64,
-    /// The denominator, 1 at least.
+    /// The denominator, at least 1.
     pub q: i64,
 }
 
-/// A variable with its least and its greatest value; it has no value where `from` is above `to`.
+/// A variable with its least and its greatest value. If `from` is above `to`, it has no value.
 #[derive(Clone, Copy, Debug, PartialEq, Eq)]
 pub struct Variable {
     /// What the variable is called in the query and in the output.
@@ -78,8 +77,8 @@ pub struct Variable {
     pub to: i32,
 }
 
-/// A rectangle of cells that variables place: in each dimension the index where it begins and how many
-/// cells long it is. A dimension that is not used begins at 0 and has length 1.
+/// A rectangle of cells that variables place: in each dimension the index at which it begins, and its length in cells.
+/// A dimension that is not used begins at 0 and has length 1.
 #[derive(Clone, Copy, Debug, PartialEq, Eq)]
 pub struct Region {
     /// What the region is called in the query.
@@ -93,13 +92,14 @@ pub struct Region {
 /// What has to hold at a solution.
 #[derive(Clone, Copy, Debug, PartialEq, Eq)]
 pub enum Constraint {
-    /// The expression compares so with a number.
+    /// The comparison holds of the value of the expression and a number.
     Linear {
         expr: Expr,
         compare: Compare,
         to: i64,
     },
-    /// The region, by its number from 0, is proper, and the aggregate of its present cells compares so with a number.
+    /// The region with this index is proper, and the comparison holds of the aggregate of its present cells and a
+    /// number.
     Aggregate {
         agg: Agg,
         region: u8,

@@ -22,8 +22,8 @@ impl Variable {
     }
 }
 
-/// A query: what is searched for on arrays of one rank. Clauses see its rank and its three lists. Its type
-/// keeps every limit and every rule of a query (`IsQuery`).
+/// A query: what is searched for on arrays of one rank. Clauses see its rank and its three lists. Its type keeps every
+/// limit and every rule of a query (`IsQuery`).
 #[derive(Drop)]
 pub struct Query {
     rank: u8,
@@ -78,7 +78,7 @@ impl Query {
         self.variables.as_slice()
     }
 
-    /// Its regions, at most 16; constraints name them by their places.
+    /// Its regions, at most 16. Constraints name them by their indices.
     pub fn regions(&self) -> &[Region]
         ensures regions { result.now ≡ self.now.regions }
         ensures rules { IsQuery self.now }
@@ -94,7 +94,7 @@ impl Query {
         self.constraints.as_slice()
     }
 
-    /// The box of the variables' ranges, the empty box where some range has no value. Each of its points has a
+    /// The box of the variables' ranges. If some range has no value, it is the empty box. Each of its points has a
     /// value for each variable.
     pub fn root(&self) -> VarBox
         ensures domains { result ≡ box_from (box_of self.now) }

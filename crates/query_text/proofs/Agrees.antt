@@ -1,4 +1,4 @@
--- How the steps of the walk go with the form: what is read is what the value stands for, and only a limit refuses it.
+-- How the steps of the walk and the form agree: what is read is what the value stands for, and only a limit refuses such a value.
 use Rattle.std.proofs.Common.{◌≡◌, Bool, true, false, not, refl, sym, ap, subst}
 use Rattle.std.proofs.lemmas.Option.{none-some, same_Some}
 use Rattle.std.specs.Prelude.{Option, None, Some, Ok, Err, option_and_then, option_map}
@@ -7,7 +7,7 @@ use Rattle.query_text.specs.Form.{where_true}
 use Rattle.query_text.specs.Limits.{IsLimit}
 use Rattle.query_text.specs.Walk.{Walked, ◌>>=◌, or_refuse, refuse_if}
 
--- what is read is what it stands for, and what it stands for is refused only for a limit that P does not keep
+-- what is read is what it stands for; if it stands for something, it is refused only for a limit that P does not keep
 pub record Agrees {X : Type 0} (P : X → Type 0) (form : Option X) (walked : Walked X) : Type 0 where
   pub accepted : (x : X) → walked ≡ Ok x → form ≡ Some x
   pub refused : (x : X) (r : QueryRefusal) → form ≡ Some x → walked ≡ Err r → IsLimit r × (P x → ⊥)
@@ -25,15 +25,15 @@ agrees_limit P f r limit beyond = record {
   refused = λ y s h e. let same : r ≡ s = cc in (subst IsLimit same limit, beyond y h);
 }
 
--- at a form that is the same
+-- the same, for a form that is equal
 pub agrees_form : {X : Type 0} (P : X → Type 0) (f g : Option X) (w : Walked X) → f ≡ g → Agrees P g w → Agrees P f w
 agrees_form P f g w e h = subst (λ o. Agrees P o w) (sym e) h
 
--- at a walk that is the same
+-- the same, for a walk that is equal
 pub agrees_walk : {X : Type 0} (P : X → Type 0) (f : Option X) (v w : Walked X) → v ≡ w → Agrees P f w → Agrees P f v
 agrees_walk P f v w e h = subst (λ o. Agrees P f o) (sym e) h
 
--- a property that says more
+-- the same, for a property that says more
 pub agrees_more : {X : Type 0} (P Q : X → Type 0) (f : Option X) (w : Walked X) → ((x : X) → f ≡ Some x → Q x → P x) → Agrees P f w → Agrees Q f w
 agrees_more P Q f w more h = record {
   accepted = h.accepted;

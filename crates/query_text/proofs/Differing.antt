@@ -22,7 +22,7 @@ and_swap true false true d = refl
 and_swap true false false d = refl
 and_swap false b c d = refl
 
--- x is the same as none before it
+-- x is none of those before it
 abbrev pub differs : {X : Type 0} → (X → X → Bool) → List X → X → Bool
 differs same xs x = not (list_any (λ y. same y x) xs)
 

@@ -61,7 +61,7 @@ items_size variables (d ∷ ds) items e =
     let terms = length-append p.0.terms (terms_of m.0) in
     ap (λ l. length (constants_of l) + length (terms_of l)) (sym m.2) ∙ omega (arith, constants, terms, one, rest)
 
--- ---- what an expression says of its sum
+-- ---- what an expression says about its sum
 
 constant_within : (P : ℤ → Type 0) (c : Option ℤ) → P (unwrap_or c (pos 0)) → IfSome c P
 constant_within P None h = tt

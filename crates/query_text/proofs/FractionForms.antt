@@ -1,4 +1,4 @@
--- What aggregates are compared with: what is read of it is what it stands for.
+-- The numbers that aggregates are compared with: what is read is what the value stands for.
 use Rattle.std.proofs.Common.{◌^◌, pos, List, arith}
 use Rattle.std.proofs.lemmas.Int.{ints}
 use Rattle.std.specs.Prelude.{Option, None, Some, option_and_then, codes}

@@ -8,7 +8,7 @@ use Rattle.query_text.specs.declared.refusal.QueryRefusal.TheVariants.{NotJson}
 use Rattle.query_text.specs.Json.{json_of}
 use Rattle.query_text.specs.Walk.{◌>>=◌, or_refuse, walk_query, walk_bytes}
 
--- bytes that are read as a value are walked as it
+-- bytes that are read as a value are walked as that value
 pub walk_bytes-value : (rank : ℕ) (bytes : List ℕ) (d : Data) → IsUtf8 bytes → read bytes ≡ Some d → walk_bytes rank bytes ≡ walk_query rank d
 walk_bytes-value rank bytes d text e =
     let is_json : json_of bytes ≡ Some d = ap (λ (b : Bool). if b then read bytes else None) (is_utf8-from_IsUtf8 bytes text) ∙ e in
@@ -18,6 +18,6 @@ none_by : (bytes : List ℕ) (b : Bool) → is_utf8 bytes ≡ b → (IsUtf8 byte
 none_by bytes true e h = h (IsUtf8-from_is_utf8 bytes e)
 none_by bytes false e h = refl
 
--- bytes that are no JSON are refused so
+-- bytes that are not JSON are refused as `NotJson`
 pub walk_bytes-none : (rank : ℕ) (bytes : List ℕ) → (IsUtf8 bytes → read bytes ≡ None) → walk_bytes rank bytes ≡ Err NotJson
 walk_bytes-none rank bytes h = ap (λ o. or_refuse NotJson o >>= walk_query rank) (none_by bytes (is_utf8 bytes) refl h)

@@ -74,17 +74,17 @@ all_prefix P xs ys all = subst (All P) (take-append_seam xs ys) (All-take P (len
 pub all_suffix : {X : Type 0} (P : X → Type 0) (xs ys : List X) → All P (xs ++ ys) → All P ys
 all_suffix P xs ys all = subst (All P) (drop-append_seam xs ys) (All-drop P (length xs) (xs ++ ys) all)
 
--- a list that keeps the rule, where each item fits what stands before it
+-- a list that keeps the rule, if each item is compatible with the items before it
 module _ {X : Type 0} (rule : List X → Bool) (fits : List X → X → Bool) (form : Data → Option X) (step : List X → Data → Walked X) (P : X → Type 0)
     (begins : rule [] ≡ true)
     (goes_on : (xs : List X) (x : X) → rule (xs ++ x ∷ []) ≡ rule xs && fits xs x)
     (breaks : (xs ys : List X) → rule xs ≡ false → rule (xs ++ ys) ≡ false)
     (steps : (xs : List X) (d : Data) → Agrees P (option_and_then (λ x. where_true (fits xs x) (Some x)) (form d)) (step xs d)) where
-  -- the list, where it keeps the rule
+  -- the list, if it keeps the rule
   kept : List X → Option (List X)
   kept xs = where_true (rule xs) (Some xs)
 
-  -- one list after another, where both together keep it
+  -- two lists one after the other, if both together keep it
   joined : List X → List X → Option (List X)
   joined xs ys = kept (xs ++ ys)
 

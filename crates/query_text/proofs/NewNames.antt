@@ -1,4 +1,4 @@
--- Names that are not taken: what is read of them is what they stand for.
+-- Names that are not used before: what is read is what the value stands for.
 use Rattle.std.proofs.Common.{◌≡◌, ℕ, suc, ◌+◌, Bool, true, false, cond, not, ◌||◌, nat_lt, List, [], ◌∷◌, length, refl, sym, ap, ◌∙◌, arith}
 use Rattle.std.proofs.lemmas.Bool.Decides.{nat_tests}
 use Rattle.std.proofs.lemmas.Option.{none-some, same_Some}
@@ -60,11 +60,11 @@ then_new false r n k = refl
 module _ {X : Type 0} (P : X → Type 0) (name : X → List ℕ) (before : List X) (at : Location) (g : Name → Option X) (k : Name → Walked X)
     (named : (text : List ℕ) (x : X) → g (name_of text) ≡ Some x → name x ≡ text)
     (next : (text : List ℕ) → Agrees P (g (name_of text)) (k (name_of text))) where
-  -- it, where its name is not taken
+  -- the item, if its name is not used before
   where_unused : X → Option X
   where_unused x = where_true (differs (λ y z. bytes_eq (name y) (name z)) before x) (Some x)
 
-  -- one before has the name
+  -- an earlier item has the name
   is_taken : List ℕ → Bool
   is_taken text = is_some (position (λ y. bytes_eq (name y) text) before)
 
@@ -89,7 +89,7 @@ module _ {X : Type 0} (P : X → Type 0) (name : X → List ℕ) (before : List 
       by None = agrees_none P (QueryRefusal.Shape at)
       by (Some text) = one_name text (is_name text)
 
--- the name of what is made of two parts
+-- the name of an item that is made of two parts
 pub name_of_two : {X Y Z : Type 0} (make : X → Y → Z) (name : Z → List ℕ) (text : List ℕ) → ((x : X) (y : Y) → name (make x y) ≡ text)
     → (o : Option X) (p : Option Y) (z : Z) → option_and_then (λ x. option_map (λ y. make x y) p) o ≡ Some z → name z ≡ text
 name_of_two make name text named None p z e = absurd (none-some z e)

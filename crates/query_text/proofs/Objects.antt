@@ -1,4 +1,4 @@
--- Objects and their keys: where one key more may stand, an object without it is one of the others.
+-- Objects and their keys. If one more key is allowed, an object without that key is one of the others.
 use Rattle.std.proofs.Common.{◌≡◌, ℕ, Bool, true, false, cond, Ordering, ◌&&◌, ◌||◌, List, ◌∷◌, ◌++◌, refl, sym, ap, subst, ◌∙◌}
 use Rattle.std.proofs.lemmas.List.Folds.{list_any-append}
 use Rattle.std.proofs.lemmas.Map.Text.{is_eq-slice_cmp}
@@ -27,7 +27,7 @@ agrees_object P keys at (string s) f w h = agrees_none P (QueryRefusal.Shape at)
 agrees_object P keys at (array ds) f w h = agrees_none P (QueryRefusal.Shape at)
 agrees_object P keys at (object ms) f w h = agrees_where P (has_only keys ms) (QueryRefusal.UnknownKey at) f w (λ e. h)
 
--- ---- one key more
+-- ---- one more key
 
 by_key : (o : Ordering) (g : Option Data) (d : Data) → match_ordering o g (Some d) g ≡ cond (is_eq o) (Some d) g
 by_key Ordering.Less g d = refl
@@ -37,7 +37,7 @@ by_key Ordering.Greater g d = refl
 get_member-member : (k l : List ℕ) (d : Data) (ms : Members) → get_member k (member l d ms) ≡ cond (bytes_eq k l) (Some d) (get_member k ms)
 get_member-member k l d ms = by_key (slice_cmp nat_cmp k l) (get_member k ms) d ∙ ap (λ b. cond b (Some d) (get_member k ms)) (is_eq-slice_cmp k l)
 
--- a test of an item, of the key and of the rest, where the key is none of the others
+-- a test of an item, of the key and of the rest, if the key is none of the others
 and_steps : (others key rest absent all : Bool) (d : Data) (g : Option Data) → (key ≡ true → others ≡ false) → rest && is_none g ≡ all
     → ((others || key) && rest) && is_none (cond key (Some d) g) ≡ others && all
 and_steps true true rest absent all d g apart e = let no = apart refl in absurd (cc)

@@ -41,7 +41,7 @@ agrees_part most at key d = by (get key d)
 
 -- ---- the variables
 
--- their items: one at least
+-- their items, at least one
 abbrev pub some_items : Data → Option (List Data)
 some_items d = option_and_then (λ ds. where_true (not (length ds == 0)) (Some ds)) (items_at (codes "variables") d)
 

@@ -14,7 +14,7 @@ product-snoc : (ns : List ℕ) (n : ℕ) → product (ns ++ n ∷ []) ≡ produc
 product-snoc [] n = grind arith
 product-snoc (m ∷ ns) n = ap (λ k. m * k) (product-snoc ns n) ∙ grind arith
 
--- cut off at m, before and after another factor
+-- cut off at m, before and after one more factor
 min_times : (a s m : ℕ) → min (min a m * s) m ≡ min (a * s) m
 min_times a s m = ⊎_elim large (λ small. ap (λ k. min (k * s) m) (min-eq_left small)) (cases_lt m a)
   where
@@ -28,7 +28,7 @@ min_times a s m = ⊎_elim large (λ small. ap (λ k. min (k * s) m) (min-eq_lef
             let higher : m * suc n ≤ a * suc n = mul-le-mul_right (suc n) (omega arith) in
             omega (arith, up, higher)
 
--- one variable more
+-- one more variable
 pub point_count_more : (vs : List Variable) (i : ℕ) (d : Variable) (so_far size more m : ℕ) → i < length vs → size ≡ size_of (domain_of (get_or vs i d)) → more ≡ min (so_far * size) m
     → so_far ≡ min (point_count (take i vs)) m → more ≡ min (point_count (take (i + 1) vs)) m
 point_count_more vs i d so_far size more m below sized times so =

@@ -1,4 +1,4 @@
--- The rank of a query that is read.
+-- The rank of a query that was read.
 use Rattle.std.proofs.Common.{◌≡◌, ℕ, ◌^◌, List, Result, Ok, Err, IfOk, refl, subst, nat_lt, codes}
 use Rattle.serde_json.specs.Data.{Data}
 use Rattle.serde_json.specs.Find.{get}
@@ -17,7 +17,7 @@ use Rattle.query_text.specs.Walk.{Walked, ◌>>=◌, or_refuse, refuse_if, walk_
 record IsFor (rank : ℕ) (walked : Walked QueryParts) : Type 0 where
   pub is : IfOk walked (λ q. q.rank ≡ rank)
 
--- what each next step gives, the steps together give
+-- what holds of the result of each next step holds of the result of the steps together
 after : {X : Type 0} (rank : ℕ) (w : Walked X) (next : X → Walked QueryParts) → ((x : X) → IsFor rank (next x)) → IsFor rank (w >>= next)
 after rank (Ok x) next h = h x
 after rank (Err r) next h = record { is = tt }
@@ -37,7 +37,7 @@ unfolding walk_query
 walk_query-rank rank d =
     after rank (walk_object query_keys location.query d) _ (λ _. after rank (walk_variables_part (get (codes "variables") d)) _ (λ vs. after rank (walk_part 16 (location.part Part.Regions) (get (codes "regions") d)) _ (λ rs. after rank (walk_part 64 (location.part Part.Constraints) (get (codes "constraints") d)) _ (λ cs. walk_parts-rank rank vs rs cs))))
 
--- a query that reading gives, where it gives what the walk for a rank does, is for that rank
+-- if reading gives what the walk for a rank gives, the query is for that rank
 pub gives-rank : (rank : ℕ) (bytes : List ℕ) (r : Result QueryParts QueryFault) → Gives (λ (q : QueryParts). q) (walk_bytes rank bytes) r → IfOk r (λ q. q.rank ≡ rank)
 gives-rank rank bytes (Ok q) h = (subst (IsFor rank) h (after rank (or_refuse NotJson (json_of bytes)) (walk_query rank) (walk_query-rank rank))).is
 gives-rank rank bytes (Err f) h = tt

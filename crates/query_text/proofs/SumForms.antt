@@ -1,4 +1,4 @@
--- Sums: what is read item by item is the sum of what the items stand for.
+-- Sums: what is read item by item is the sum for which the items stand.
 use Rattle.std.proofs.Common.{◌≡◌, ℕ, ◌^◌, Bool, true, false, not, ℤ, pos, List, [], ◌∷◌, refl, sym, subst}
 use Rattle.std.proofs.lemmas.Option.{none-some}
 use Rattle.std.proofs.lemmas.List.Elements.{All-head}
@@ -21,7 +21,7 @@ use Rattle.query_text.proofs.Numbers.{IsUpTo, agrees_whole, small_10, small_31}
 use Rattle.query_text.proofs.SumParts.{has_once, sum_splits, sum_stays, sum_with_term, sum_with_constant}
 use Rattle.query_text.proofs.SumKept.{IsSmall, sum_kept}
 
--- a sum with one item more
+-- a sum with one more item
 joined : SumParts → SumParts → Option SumParts
 joined s i = sum_of_items (s ∷ i ∷ [])
 

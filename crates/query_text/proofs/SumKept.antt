@@ -1,4 +1,4 @@
--- What is kept of a sum in the sum that it becomes with further items.
+-- What stays true of a sum when further items are added.
 use Rattle.std.proofs.Common.{◌≡◌, ℕ, ◌^◌, ◌≤◌, true, ◌&&◌, nat_le, ℤ, List, ◌∷◌, ◌++◌, length, sym, ap, subst, ◌∙◌, arith}
 use Rattle.std.specs.Prelude.{Option, None, Some, All, IfSome, option_to_list}
 use Rattle.std.specs.List.{slice_get}
@@ -30,7 +30,7 @@ sum_kept s items z e =
           record { constant = kept_constant (λ y. IsWithin y (2 ^ 31)) s.constant (constants_of items) before.constant; factors = all_prefix (λ (t : Term). IsWithin t.factor 1024) s.terms (terms_of items) before.factors },
     )
 
--- a sum of items has one constant at most, and the terms of all
+-- a sum of items has at most one constant, and the terms of all items
 pub sum_made : (items : List SumParts) (s : SumParts) → sum_of_items items ≡ Some s → (length (constants_of items) ≤ 1) × (terms_of items ≡ s.terms)
 unfolding sum_of_items
 sum_made items s e =

@@ -1,4 +1,4 @@
--- Sums of items: joined one by one they are what they are together.
+-- Sums of items: joining them one by one gives the sum of all.
 use Rattle.std.proofs.Common.{◌≡◌, Bool, true, false, not, ◌&&◌, nat_le, ◌==◌, ℤ, List, [], ◌∷◌, ◌++◌, length, refl, sym, ap, ◌∙◌, append_assoc, append-nil, arith}
 use Rattle.std.proofs.lemmas.List.{length-append}
 use Rattle.std.proofs.lemmas.Bool.Decides.{nat_tests}
@@ -13,11 +13,11 @@ use Rattle.query_text.proofs.Differing.{differs, all_differ-push, all_differ_bre
 abbrev pub same_term : Term → Term → Bool
 same_term t u = t.var == u.var
 
--- the sum of these constants and terms, where at most one is a constant and each variable stands in one at most
+-- the sum of these constants and terms, if at most one is a constant and no two terms have the same variable
 abbrev pub sum_of_parts : List ℤ → List Term → Option SumParts
 sum_of_parts cs ts = where_true (nat_le (length cs) 1 && all_differ same_term ts) (Some (record { constant = slice_get cs 0; terms = ts }))
 
--- no variable stands twice
+-- no two terms have the same variable
 abbrev pub has_once : List Term → Bool
 has_once ts = all_differ same_term ts
 
@@ -95,7 +95,7 @@ with_term_parts c ts t h =
     ∙ ap (λ b. where_true b (Some (record { constant = slice_get (option_to_list c ++ []) 0; terms = ts ++ t ∷ [] }))) (all_differ-push same_term ts t ∙ ap (λ b. b && differs same_term ts t) h)
     ∙ ap (λ k. where_true (differs same_term ts t) (Some (record { constant = k; terms = ts ++ t ∷ [] }))) (first_constant c)
 
--- with one term more, where its variable was not there
+-- with one more term, if its variable was in none
 pub sum_with_term : (s : SumParts) (t : Term) → has_once s.terms ≡ true → sum_of_items (s ∷ record { constant = None; terms = t ∷ [] } ∷ []) ≡ where_true (not (has_term t.var s)) (Some (with_term t s))
 unfolding sum_of_items
 sum_with_term s t h = with_term_parts s.constant s.terms t h
@@ -106,7 +106,7 @@ with_constant_parts None ts z h =
     ap (sum_of_parts (z ∷ [])) (append-nil ts) ∙ ap (λ b. where_true b (Some (record { constant = Some z; terms = ts }))) h
 with_constant_parts (Some y) ts z h = refl
 
--- with a constant, where there was none
+-- with a constant, if there was none
 pub sum_with_constant : (s : SumParts) (z : ℤ) → has_once s.terms ≡ true → sum_of_items (s ∷ record { constant = Some z; terms = [] } ∷ []) ≡ where_true (not (is_some s.constant)) (Some (with_constant z s))
 unfolding sum_of_items
 sum_with_constant s z h = with_constant_parts s.constant s.terms z h

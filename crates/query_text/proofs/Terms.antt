@@ -1,4 +1,4 @@
--- Sums of terms, each variable in one at most.
+-- Sums of terms, no two of which have the same variable.
 use Rattle.std.proofs.Common.{◌≡◌, ◌≢◌, ℕ, zero, suc, ◌+◌, ◌-◌, ◌≤◌, ◌<◌, ◌^◌, Bool, true, false, ◌||◌, ◌==◌, ◌⊎◌, ⊎_elim, inl, inr, List, [], ◌∷◌, ◌++◌, length, map, take, drop, replicate, get_or, ℤ, pos, Option, Some, None, IfSome, unwrap_or, All, AllPairs, refl, sym, ap, ◌∙◌, subst, length-append, arith}
 use Rattle.std.specs.List.{list_any}
 use Rattle.std.proofs.lemmas.Int.{ints}
@@ -15,7 +15,7 @@ use Rattle.query_model.specs.declared.parts.Term.{Term}
 use Rattle.query_model.specs.Rules.{IsTerm, IsExpr, no_term}
 use Rattle.query_text.specs.Sums.{SumParts, IsSum, empty_sum, with_constant, with_term, has_term, expr_of}
 
--- a sum in its array of terms is the expression that it is
+-- a sum as an array of terms is the same expression
 pub expr_seen : (constant : Option ℤ) (value : ℤ) (count : ℕ) (terms : List Term) (sum : SumParts) → (record { constant = constant; terms = take count terms }) ≡ sum → count ≤ length terms
     → drop count terms ≡ replicate (8 - count) no_term → value ≡ unwrap_or constant (pos 0) → (record { constant = value; count = count; terms = terms }) ≡ expr_of sum
 expr_seen constant value count terms sum seen short unused is =
@@ -26,7 +26,7 @@ expr_seen constant value count terms sum seen short unused is =
     λ i. record { constant = is i; count = sym counted i; terms = whole i } in
     made ∙ ap expr_of seen
 
--- ---- each variable in one term at most
+-- ---- no two terms have the same variable
 
 either_true : (a b : Bool) → a || b ≡ true → (a ≡ true) ⊎ (b ≡ true)
 either_true true b h = inl refl
@@ -51,7 +51,7 @@ pairs_of_vars ts once i j d before below =
     let i_below : i < length ts = omega (arith, before, j_below) in
     λ same. once i j no_term before j_below (sym (get_or-map var ts i no_term d i_below) ∙ same ∙ get_or-map var ts j no_term d j_below)
 
--- terms of n variables are at most n
+-- there are at most n terms of n variables
 pub terms_few : (n : ℕ) (ts : List Term) → All (IsTerm n) ts → AllPairs (λ (t u : Term). t.var ≢ u.var) ts → length ts ≤ n
 terms_few n ts all once =
     let vars = map (λ (t : Term). t.var) ts in
@@ -65,7 +65,7 @@ other_vars v (t ∷ ts) none zero d below =
     let first = (either_false (t.var == v) _ none).0 in λ same. absurd (both_ways (t.var == v) first ((Decides-eqb t.var v).1 same))
 other_vars v (t ∷ ts) none (suc k) d below = other_vars v ts (either_false (t.var == v) _ none).1 k d (omega (arith, below))
 
--- one term more, of a variable that had none
+-- one more term, of a variable that had none
 pub sum_with_term : (n : ℕ) (t : Term) (sum : SumParts) → IsSum n sum → has_term t.var sum ≡ false → IsTerm n t → IsSum n (with_term t sum)
 sum_with_term n t sum is none term = record {
   constant = is.constant;

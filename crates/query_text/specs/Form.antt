@@ -26,16 +26,16 @@ use Rattle.query_text.specs.Sums.{SumParts, expr_of}
 
 -- ---- parts of values
 
--- x, where the test passes
+-- x, if the test passes
 abbrev pub where_true : {X : Type 0} → Bool → Option X → Option X
 where_true b found = if b then found else None
 
--- what each item stands for, where each stands for something
+-- what each item stands for, if each stands for something
 abbrev pub every : {X Y : Type 0} → (X → Option Y) → List X → Option (List Y)
 every form [] = Some []
 every form (x ∷ xs) = option_and_then (λ y. option_map (λ ys. y ∷ ys) (every form xs)) (form x)
 
--- an object with none but these keys
+-- an object with no other keys than these
 abbrev pub is_object_of : List (List ℕ) → Data → Bool
 is_object_of keys d = option_map_or (has_only keys) (as_object d) false
 
@@ -90,13 +90,13 @@ constants_of items = flat_map (λ (s : SumParts). option_to_list s.constant) ite
 abbrev pub terms_of : List SumParts → List Term
 terms_of items = flat_map (λ (s : SumParts). s.terms) items
 
--- the sum of some items, where at most one is a constant and each variable stands in one at most
+-- the sum of some items, if at most one is a constant and no two terms have the same variable
 unfoldable pub sum_of_items : List SumParts → Option SumParts
 sum_of_items items =
     where_true (nat_le (length (constants_of items)) 1 && all_differ (λ (t u : Term). t.var == u.var) (terms_of items))
     (Some (record { constant = slice_get (constants_of items) 0; terms = terms_of items }))
 
--- a sum of one item at least
+-- a sum of at least one item
 unfoldable pub sum_form : List Variable → List Data → Option Expr
 sum_form variables ds =
     where_true (not (length ds == 0)) (option_map expr_of (option_and_then sum_of_items (every (item_form variables) ds)))
@@ -123,7 +123,7 @@ variables_form ds =
 
 -- ---- regions, over the rank and the variables
 
--- an expression for each dimension at a key, and a number in each dimension that is not used
+-- the expressions at a key, one for each dimension, and a constant for each dimension that is not used
 unfoldable pub dimensions_form : ℕ → List Variable → ℕ → List ℕ → Data → Option (List Expr)
 dimensions_form rank variables rest key d =
     option_and_then (λ ds. where_true (length ds == rank)
@@ -151,7 +151,7 @@ abbrev pub fraction_form : List Data → Option Fraction
 fraction_form ds =
     option_and_then (λ (m, n). option_and_then (λ p. option_map (λ q. record { p = p; q = q }) (as_integer n)) (as_integer m)) (option_and_then numbers_of (two_of ds))
 
--- what an aggregate is compared with: a whole number, or for an average also a pair
+-- the number that an aggregate is compared with: a whole number, or for an average also a pair
 unfoldable pub fraction_at : Agg → Data → Option Fraction
 fraction_at Sum d = whole_fraction_at d
 fraction_at Min d = whole_fraction_at d
@@ -176,18 +176,18 @@ linear_form variables d =
     (whole_at (codes "to") d)) (option_and_then compare_named (text_at (codes "cmp") d)))
     (option_and_then (expr_form variables) (get (codes "expr") d)))
 
--- one of the two, by whether there is an aggregate
+-- one of the two kinds: on an aggregate if there is a key `agg`, and on an expression otherwise
 unfoldable pub constraint_form : List Variable → List Region → Data → Option Constraint
 constraint_form variables regions d =
     if is_none (get (codes "agg") d) then linear_form variables d else aggregate_form regions d
 
 -- ---- the whole
 
--- the items of a part, none where it is absent
+-- the items of a part, none if it is absent
 abbrev pub part_at : List ℕ → Data → Option (List Data)
 part_at key d = if is_none (get key d) then Some [] else items_at key d
 
--- the variables: one at least
+-- the variables, at least one
 abbrev pub variables_at : Data → Option (List Variable)
 variables_at d =
     option_and_then (λ ds. where_true (not (length ds == 0)) (variables_form ds)) (items_at (codes "variables") d)

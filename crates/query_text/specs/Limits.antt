@@ -3,27 +3,27 @@
 use Rattle.query_text.specs.declared.refusal.QueryRefusal.{QueryRefusal}
 use Rattle.query_text.specs.declared.refusal.QueryRefusal.TheVariants.{TooLong, NotJson, Shape, UnknownKey, Number, Name, Repeated, Unbound, Dimensions, TooMany, TooLarge}
 
--- it is refused for a size
+-- a size was refused
 abbrev pub IsLimit : QueryRefusal → Type 0
--- how many bytes there are
+-- the number of bytes
 IsLimit (TooLong size) = Unit {0}
--- how large a number is, or that it is not whole
+-- the size of a number, or that it is not whole
 IsLimit (Number location) = Unit {0}
--- how many items there are
+-- the number of items
 IsLimit (TooMany location) = Unit {0}
--- how many points there are
+-- the number of points
 IsLimit TooLarge = Unit {0}
--- no JSON
+-- the bytes are not JSON
 IsLimit NotJson = ⊥
--- another kind of value
+-- a value of another kind
 IsLimit (Shape location) = ⊥
--- a key of none of the fields
+-- a key that is not allowed
 IsLimit (UnknownKey location) = ⊥
--- no name, or no word that may stand there
+-- a string that is not a name, or not a word that is allowed there
 IsLimit (Name location) = ⊥
--- a second of what there is one of
+-- a second one, where only one is allowed
 IsLimit (Repeated location) = ⊥
--- a name of nothing
+-- a name of no variable and of no region
 IsLimit (Unbound location) = ⊥
 -- another number of dimensions
 IsLimit (Dimensions region found) = ⊥

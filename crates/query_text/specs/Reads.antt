@@ -6,18 +6,18 @@ use Rattle.query_text.specs.declared.fault.QueryFault.TheVariants.{Refused, NoMe
 use Rattle.query_text.specs.declared.refusal.QueryRefusal.{QueryRefusal}
 use Rattle.query_text.specs.Walk.{Walked}
 
--- a value is seen as the one that the walk gives, or the walk refuses so, or memory ran out
+-- a value is seen as the one that the walk gives, or it is the walk's refusal, or memory ran out
 abbrev pub Gives : {T X : Type 0} → (T → X) → Walked X → Result T QueryFault → Type 0
 Gives seen walked (Ok x) = walked ≡ Ok (seen x)
 Gives seen walked (Err (Refused r)) = walked ≡ Err r
 Gives seen walked (Err NoMemory) = ⊤
 
--- the same where no memory is taken
+-- the same if no memory is taken
 abbrev pub Shows : {T X : Type 0} → (T → X) → Walked X → Result T QueryRefusal → Type 0
 Shows seen walked (Ok x) = walked ≡ Ok (seen x)
 Shows seen walked (Err r) = walked ≡ Err r
 
--- a value was changed to the one that the walk gives, or the walk refuses so
+-- a value was changed to the one that the walk gives, or it is the walk's refusal
 abbrev pub Changes : {T X : Type 0} → Walked X → Result T QueryRefusal → X → Type 0
 Changes walked (Ok x) new = walked ≡ Ok new
 Changes walked (Err r) new = walked ≡ Err r

@@ -1,4 +1,4 @@
--- The sum of an expression, as far as it was read: a constant and terms.
+-- The part of an expression that was read so far: a constant and terms.
 -- `Form`, `Walk` and the contracts of `sum` and `expression` use it.
 use Rattle.std.specs.Prelude.{◌≢◌, ℕ, ◌-◌, ◌^◌, ℤ, pos, Bool, ◌==◌, List, [], ◌∷◌, ◌++◌, length, replicate, Option, None, Some, unwrap_or, All, AllPairs, IfSome}
 use Rattle.std.specs.List.{list_any}
@@ -19,7 +19,7 @@ empty_sum = record { constant = None; terms = [] }
 abbrev pub with_constant : ℤ → SumParts → SumParts
 with_constant z s = record { constant = Some z; terms = s.terms }
 
--- with one term more
+-- with one more term
 abbrev pub with_term : Term → SumParts → SumParts
 with_term t s = record { constant = s.constant; terms = s.terms ++ t ∷ [] }
 
@@ -27,7 +27,7 @@ with_term t s = record { constant = s.constant; terms = s.terms ++ t ∷ [] }
 abbrev pub has_term : ℕ → SumParts → Bool
 has_term v s = list_any (λ (t : Term). t.var == v) s.terms
 
--- the expression: a constant that was not read is 0
+-- the expression. If no constant was read, it is 0
 abbrev pub expr_of : SumParts → Expr
 expr_of s = record { constant = unwrap_or s.constant (pos 0); count = length s.terms; terms = s.terms ++ replicate (8 - length s.terms) no_term }
 

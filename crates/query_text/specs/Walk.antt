@@ -1,4 +1,4 @@
--- The walk over a query: its steps in order, each giving what it read or the refusal that ends the walk.
+-- The walk over a query, step by step. Each step gives what it read, or the refusal that ends the walk.
 -- The contracts of this crate and of `search_run` use it.
 use Rattle.std.specs.Prelude.{ℕ, ◌+◌, ◌-◌, ◌^◌, min, ℤ, pos, nat_lt, nat_le, Bool, not, ◌==◌, List, [], ◌∷◌, ◌++◌, length, map, replicate, Option, Some, None, is_some, option_and_then, Result, Ok, Err, if◌then◌else◌, codes, ⊤}
 use Rattle.std.specs.Option.{option_map_or}
@@ -42,16 +42,16 @@ abbrev pub ◌>>=◌ : {X Y : Type 0} → Walked X → (X → Walked Y) → Walk
 (Ok x) >>= next = next x
 (Err r) >>= next = Err r
 
--- what is there, or this refusal
+-- the value if there is one, and otherwise this refusal
 abbrev pub or_refuse : {X : Type 0} → QueryRefusal → Option X → Walked X
 or_refuse r None = Err r
 or_refuse r (Some x) = Ok x
 
--- this refusal where b holds
+-- this refusal if b holds
 abbrev pub refuse_if : Bool → QueryRefusal → Walked ⊤
 refuse_if b r = if b then Err r else Ok tt
 
--- one step for each item, each over what was read before
+-- one step for each item; each step gets what was read before
 abbrev pub walk_fold : {X : Type 0} → (X → Data → Walked X) → X → List Data → Walked X
 walk_fold step x [] = Ok x
 walk_fold step x (d ∷ ds) = step x d >>= (λ y. walk_fold step y ds)
@@ -60,7 +60,7 @@ walk_fold step x (d ∷ ds) = step x d >>= (λ y. walk_fold step y ds)
 abbrev pub appending : {X : Type 0} → (List X → Data → Walked X) → List X → Data → Walked (List X)
 appending step before d = step before d >>= (λ x. Ok (before ++ x ∷ []))
 
--- one step for each item, each over the list of what was read before
+-- one step for each item; each step gets the list of what was read before
 abbrev pub walk_each : {X : Type 0} → (List X → Data → Walked X) → List Data → Walked (List X)
 walk_each step ds = walk_fold (appending step) [] ds
 
@@ -70,7 +70,7 @@ next_number before = length before + 1
 
 -- ---- single values
 
--- an object with none but these keys
+-- an object with no other keys than these
 abbrev pub walk_object : List (List ℕ) → Location → Data → Walked ⊤
 walk_object known at d =
     or_refuse (Shape at) (as_object d) >>= (λ members. refuse_if (not (has_only known members)) (UnknownKey at))
@@ -92,7 +92,7 @@ walk_new_name is_taken at found =
 abbrev pub walk_whole : ℕ → Location → Num → Walked ℤ
 walk_whole bound at n = or_refuse (Number at) (whole_within bound n)
 
--- a number, and that a whole one within the bound
+-- a number, which has to be whole and within the bound
 abbrev pub walk_number : ℕ → Location → Option Data → Walked ℤ
 walk_number bound at found = or_refuse (Shape at) (option_and_then as_number found) >>= walk_whole bound at
 
@@ -102,14 +102,14 @@ walk_number bound at found = or_refuse (Shape at) (option_and_then as_number fou
 abbrev pub walk_variable_name : List Variable → Location → List ℕ → Walked ℕ
 walk_variable_name variables at text = or_refuse (Unbound at) (variable_named text variables)
 
--- one term more
+-- one more term
 unfoldable pub walk_term : List Variable → Location → ℤ → List ℕ → SumParts → Walked SumParts
 walk_term variables at factor text sum =
     walk_variable_name variables at text >>= (λ v.
     refuse_if (has_term v sum) (Repeated at) >>= (λ _.
     Ok (with_term (record { factor = factor; var = v }) sum)))
 
--- a constant, where there was none before
+-- a constant, if there was none before
 unfoldable pub walk_constant : Location → Num → SumParts → Walked SumParts
 walk_constant at n sum =
     refuse_if (is_some sum.constant) (Repeated at) >>= (λ _.
@@ -171,7 +171,7 @@ region_keys = codes "name" ∷ codes "at" ∷ codes "length" ∷ []
 abbrev pub walk_dimension : List Variable → Location → List Expr → Data → Walked Expr
 walk_dimension variables at before d = walk_expr variables (location.dimension at (next_number before)) d
 
--- a number of items, as far as 32 bits tell; a query has too few bytes to reach the end of that
+-- a number of items in 32 bits. A query has too few bytes to reach the end of this range
 abbrev pub shown_count : ℕ → ℕ
 shown_count n = min n (2 ^ 32 - 1)
 
@@ -182,7 +182,7 @@ walk_dimensions rank variables region at found =
     refuse_if (not (length ds == rank)) (Dimensions region (shown_count (length ds))) >>= (λ _.
     walk_each (walk_dimension variables at) ds))
 
--- and then this number in each dimension that is not used
+-- and then this constant in each dimension that is not used
 abbrev pub then_padded : ℕ → ℕ → Walked (List Expr) → Walked (List Expr)
 then_padded rank n walked = walked >>= (λ exprs. Ok (exprs ++ replicate (3 - rank) (constant_expr (pos n))))
 
@@ -226,11 +226,11 @@ walk_pair at ds =
 abbrev pub walk_whole_fraction : Location → Option Data → Walked Fraction
 walk_whole_fraction at found = walk_number (2 ^ 52) at found >>= (λ p. Ok (whole_fraction p))
 
--- what an average is compared with: a pair or a whole number
+-- the number that an average is compared with: a pair or a whole number
 abbrev pub walk_average : Location → Option Data → Walked Fraction
 walk_average at found = option_map_or (walk_pair at) (option_and_then items_in found) (walk_whole_fraction at found)
 
--- what an aggregate is compared with
+-- the number that an aggregate is compared with
 unfoldable pub walk_fraction : Agg → Location → Option Data → Walked Fraction
 walk_fraction Sum at found = walk_whole_fraction at found
 walk_fraction Min at found = walk_whole_fraction at found
@@ -280,7 +280,7 @@ walk_items most at d =
 unfoldable pub walk_part : ℕ → Location → Option Data → Walked (List Data)
 walk_part most at found = option_map_or (walk_items most at) found (Ok [])
 
--- the variables: one at least
+-- the variables, at least one
 unfoldable pub walk_variables_part : Option Data → Walked (List Data)
 walk_variables_part found =
     or_refuse (Shape (location.part Part.Variables)) (option_and_then items_in found) >>= (λ ds.
@@ -314,11 +314,11 @@ walk_query rank d =
     walk_part 64 (location.part Part.Constraints) (get (codes "constraints") d) >>= (λ cs.
     walk_parts rank vs rs cs))))
 
--- how many bytes a query has at most
+-- the greatest number of bytes of a query
 abbrev pub most_bytes : ℕ
 most_bytes = 2 ^ 20
 
--- the query of these bytes, however many they are
+-- the query of these bytes, whatever their number
 abbrev pub walk_bytes : ℕ → List ℕ → Walked QueryParts
 walk_bytes rank bytes = or_refuse NotJson (json_of bytes) >>= walk_query rank
 

@@ -14,12 +14,12 @@ pub fn accepted_queries_have_the_form()
     ensures { (rank : ℕ) (d : Data) (q : QueryParts) → walk_query rank d ≡ Ok q → query_form rank d ≡ Some q }
 {}
 
-/// Where a value stands for a query, the walk refuses it for no other reason than a limit.
+/// If a value stands for a query, the walk refuses it only for a limit.
 pub fn only_limits_refuse_the_form()
     ensures { (rank : ℕ) (d : Data) (q : QueryParts) (r : QueryRefusal) → query_form rank d ≡ Some q → walk_query rank d ≡ Err r → IsLimit r }
 {}
 
-/// Where a value stands for a query that keeps the rules, the walk reads that query.
+/// If a value stands for a query that keeps the rules, the walk reads that query.
 pub fn forms_within_the_limits_are_accepted()
     ensures { (rank : ℕ) (d : Data) (q : QueryParts) → query_form rank d ≡ Some q → IsQuery q → walk_query rank d ≡ Ok q }
 {}

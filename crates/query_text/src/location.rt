@@ -69,7 +69,7 @@ impl Field {
     }
 }
 
-/// A location in a query, as four numbers. Each counts from 1, and 0 is none.
+/// A location in a query, as four numbers. Each counts from 1, and 0 means none.
 #[derive(Clone, Copy, Debug, PartialEq, Eq)]
 pub struct Location {
     /// 1 for the variables, 2 for the regions, 3 for the constraints.

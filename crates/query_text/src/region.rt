@@ -78,7 +78,7 @@ fn read_dimensions(
     read_each_dimension(variables, items, at, rest)
 }
 
-/// The name of a member. One that a region before has is `Repeated`.
+/// The name of a member. If an earlier region has it, the refusal is `Repeated`.
 fn read_new_name(
     before: &[Region],
     found: Option<&Value>,

@@ -1,4 +1,4 @@
-//! The sum of an expression, as far as it was read. `expression` uses it.
+//! The part of an expression that was read so far. `expression` uses it.
 ghost use Rattle.std.specs.Prelude.{◌≡◌, ◌<◌, ◌^◌, ℕ, length};
 ghost use Rattle.lists.specs.Numbers.{IsWithin};
 ghost use Rattle.query_model.specs.Rules.{IsExpr, constant_expr};

@@ -22,7 +22,7 @@ use std::alloc::Global;
 /// 2^20, the largest absolute value of an end of a range.
 const MOST_END: u64 = 1048576;
 
-/// The name of a member. One that a variable before has is `Repeated`.
+/// The name of a member. If an earlier variable has it, the refusal is `Repeated`.
 fn read_new_name(
     before: &[Variable],
     found: Option<&Value>,

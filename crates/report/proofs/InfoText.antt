@@ -20,12 +20,12 @@ three_named old one two three a x b y d z first second third =
     let then = second ∙ extend (one ++ b) (a ++ x ++ b) y (extend one (a ++ x) b so_far) in
     third ∙ extend (two ++ d) (a ++ x ++ b ++ y ++ d) z (extend two (a ++ x ++ b ++ y) d then)
 
--- what was written first, and then the rest
+-- the text that was written first, and then the rest
 pub writes_after : {T E : Type 0} (r : Result T E) (old mid new : Option (List ℕ)) (xs ys : List ℕ) → mid ≡ appended old xs → Writes r ys mid new → Writes r (xs ++ ys) old new
 writes_after (Ok x) old mid new xs ys first rest = rest ∙ ap (λ m. appended m ys) first ∙ appended-appended old xs ys
 writes_after (Err x) old mid new xs ys first rest = prefix_after old mid new xs ys first rest
 
--- the pieces of one number after the other, and that of the next
+-- the pieces of some numbers, one after the other, and then the piece of the next number
 one_more : (f : ℕ → List ℕ) (n : ℕ) → flat_map f (range_with_len 0 n) ++ f n ≡ flat_map f (range_with_len 0 (n + 1))
 one_more f n =
     let same : 0 + n ≡ n = omega arith in
@@ -36,7 +36,7 @@ pub pieces_next : (f : ℕ → List ℕ) (old mid new : Option (List ℕ)) (n : 
 pieces_next f old mid new n before next =
     next ∙ ap (λ m. appended m (f n)) before ∙ appended-appended old (flat_map f (range_with_len 0 n)) (f n) ∙ ap (appended old) (one_more f n)
 
--- all pieces: those before one of them, that one, and those after it
+-- all pieces: the pieces before one of them, this piece, and the pieces after it
 in_parts : (f : ℕ → List ℕ) (n all : ℕ) → n < all → flat_map f (range_with_len 0 all) ≡ flat_map f (range_with_len 0 n) ++ (f n ++ flat_map f (range_with_len (n + 1) (all - (n + 1))))
 in_parts f n all below =
     let same : 0 + n ≡ n = omega arith in

@@ -9,12 +9,12 @@ use Rattle.domains.specs.Points.{Point}
 abbrev pub joined : ℕ → List Variable → Point → List ℕ
 joined i vs p = join_with_byte 32 (fields_of (take i vs) p)
 
--- one field more after a text is one field more after its last part
+-- adding a field to a text adds it to the text's last part
 more_after : (text rest next line : List ℕ) → (rest ++ (32 ∷ [])) ++ next ≡ line → ((text ++ (32 ∷ rest)) ++ (32 ∷ [])) ++ next ≡ text ++ (32 ∷ line)
 more_after text rest next line h =
     ap (λ l. l ++ next) (append_assoc text (32 ∷ rest) (32 ∷ [])) ∙ append_assoc text ((32 ∷ rest) ++ (32 ∷ [])) next ∙ ap (λ l. text ++ (32 ∷ l)) h
 
--- one field more, by cases
+-- one more field, by cases
 more_suc : (vs : List Variable) (p : Point) (d : Variable) (i : ℕ) → length p ≡ length vs → suc i < length vs
     → (joined (suc i) vs p ++ (32 ∷ [])) ++ field_of (get_or vs (suc i) d) (get_or p (suc i) (pos 0)) ≡ joined (suc (suc i)) vs p
 more_suc [] p d i same h = absurd (omega arith)
@@ -34,7 +34,7 @@ more_first (v ∷ vs) (x ∷ p) d same h = refl
 suc-eqb_zero : (i : ℕ) → (suc i == 0) ≡ false
 suc-eqb_zero i = search rules
 
--- a space where there are fields, and one field more
+-- a space if there are fields, and then one more field
 pub line-more : (vs : List Variable) (p : Point) (d : Variable) (i : ℕ) → length p ≡ length vs → i < length vs
     → (if i == 0 then joined i vs p else joined i vs p ++ codes " ") ++ field_of (get_or vs i d) (get_or p i (pos 0)) ≡ joined (i + 1) vs p
 line-more vs p d zero same h = more_first vs p d same h

@@ -16,7 +16,7 @@ item n = codes " " ++ decimal n
 abbrev pub items : ℕ → List ℕ → List ℕ
 items rank numbers = flat_map item (take rank numbers)
 
--- the rank, the extents of the array and of a chunk, and how many chunks there are, each on a line
+-- the rank, the extents of the array, the extents of a chunk, and the number of chunks, each on a line
 abbrev pub shape_lines : LayoutNumbers → List ℕ
 shape_lines l =
     codes "rank" ++ item l.rank ++ codes "\n"
@@ -38,7 +38,7 @@ level_lines l = flat_map (level_line l) (range_with_len 0 l.levels)
 abbrev pub extreme_items : Record → List ℕ
 extreme_items r = codes " least " ++ signed_decimal r.least ++ codes " greatest " ++ signed_decimal r.greatest ++ codes " sum " ++ signed_decimal r.sum
 
--- how many cells there are, how many of them are present, and what these are where there is one
+-- the number of cells, the number of present cells, and, if there is one, the extremes and the sum of these
 abbrev pub cells_line : LayoutNumbers → Record → List ℕ
 cells_line l r = codes "cells" ++ item (product l.extents) ++ codes " present" ++ item r.count ++ (if r.count == 0 then [] else extreme_items r) ++ codes "\n"
 

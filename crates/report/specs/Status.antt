@@ -20,7 +20,7 @@ use Rattle.report.specs.declared.ending.Ending.TheVariants.{Done, Refused, Faile
 
 -- ---- the exit status
 
--- refusals by what is looked at first: the words, then the array file or the array text, then the query file
+-- refusals in the order in which they are tested: the words, then the array file or the array text, then the query file
 abbrev pub refusal_rank : Refusal → ℕ
 refusal_rank refusal.Words = 0
 refusal_rank (refusal.Array r) = 1
@@ -104,12 +104,12 @@ failure_text failure.NoMemory = codes "no memory"
 abbrev pub message_with : List ℕ → List ℕ
 message_with said = codes "searchlight: " ++ said ++ codes "\n"
 
--- the line on the error stream; nothing where the output is whole
+-- the line on the error stream. If the output is whole, there is none
 abbrev pub message_of : Ending → List ℕ
 message_of Done = []
 message_of (Refused r) = message_with (refusal_text r)
 message_of (Failed f) = message_with (failure_text f)
 
--- the whole line was appended, or a prefix of it and this fact holds
+-- the whole line was appended, or a prefix of it, and then this fact holds
 abbrev pub Says : List ℕ → Type 0 → Option (List ℕ) → Option (List ℕ) → Type 0
 Says line fact old new = (new ≡ appended old line) ⊎ (fact × AppendsPrefix old line new)

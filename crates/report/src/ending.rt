@@ -4,7 +4,7 @@ use array_file::FileRefusal;
 use array_text::TextRefusal;
 use query_text::QueryRefusal;
 
-/// Why a command is refused. The words or the bytes of the files show it.
+/// Why a command is refused: because of its words, or because of the bytes of its files.
 #[derive(Clone, Copy, Debug, PartialEq, Eq)]
 pub enum Refusal {
     /// The words name no command.
@@ -17,7 +17,7 @@ pub enum Refusal {
     Query(QueryRefusal),
 }
 
-/// What failed in a command that is not refused.
+/// What failed, if the command is not refused.
 #[derive(Clone, Copy, Debug, PartialEq, Eq)]
 pub enum Failure {
     /// A file could not be opened, created or read.
@@ -28,7 +28,7 @@ pub enum Failure {
     NoMemory,
 }
 
-/// How a command ends: its output is whole, or what kept it from being so.
+/// How a command ends: its output is whole, or what prevented this.
 #[derive(Clone, Copy, Debug, PartialEq, Eq)]
 pub enum Ending {
     /// The output is whole.

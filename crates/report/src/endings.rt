@@ -11,7 +11,7 @@ use crate::refusals::refusal_text;
 use source_io::{Sink, write_whole};
 
 impl Refusal {
-    /// Which of the statuses of refusals it has, from 0.
+    /// Which of the refusals it is, from 0, in the order of their statuses.
     fn rank(self) -> u8
         ensures rank { result ≡ refusal_rank self }
         ensures known { result ≤ 2 }
@@ -25,7 +25,7 @@ impl Refusal {
 }
 
 impl Failure {
-    /// Which of the statuses of failures it has, from 0.
+    /// Which of the failures it is, from 0, in the order of their statuses.
     fn rank(self) -> u8
         ensures rank { result ≡ failure_rank self }
         ensures known { result ≤ 2 }

@@ -109,8 +109,8 @@ fn cells_line(layout: &Layout, cells: Record) -> Line
     line
 }
 
-/// Prints the line of each level, the finest first. `Failed` where a write failed, which the sink counts. A prefix of
-/// the lines was then written.
+/// Prints the line of each level, the finest first. `Failed` if a write failed, which the sink counts. Then a prefix of
+/// the lines was written.
 fn print_levels<K: Sink>(layout: &Layout, sink: &mut K) -> Result<(), Failed>
     ensures written { Writes result (level_lines layout.now) (K.written sink.old) (K.written sink.new) }
     ensures cause { OnErr result (Rose (K.faults sink.old) (K.faults sink.new)) }
@@ -123,8 +123,8 @@ fn print_levels<K: Sink>(layout: &Layout, sink: &mut K) -> Result<(), Failed>
     Ok(())
 }
 
-/// Prints the lines of a layout and the record of its array's cells. `Failed` where a write failed, which the sink
-/// counts. A prefix of the lines was then written.
+/// Prints the lines of a layout and of the record of its array's cells. `Failed` if a write failed, which the sink
+/// counts. Then a prefix of the lines was written.
 pub fn print_info<K: Sink>(layout: &Layout, cells: Record, sink: &mut K) -> Result<(), Failed>
     ensures written { Writes result (info.info_text layout.now cells) (K.written sink.old) (K.written sink.new) }
     ensures cause { OnErr result (Rose (K.faults sink.old) (K.faults sink.new)) }

@@ -6,8 +6,8 @@ ghost use Rattle.std.specs.Fmt.{signed_decimal};
 use itoa::Buffer;
 use std::marker::Model;
 
-/// A line of up to 400 bytes, held in place. A line of eight variables has 360 at most. Clauses see the list of
-/// its bytes.
+/// A line of up to 400 bytes, held in place. The line of a solution with eight variables has at most 360. Clauses see
+/// the list of its bytes.
 #[derive(Drop)]
 pub struct Line {
     bytes: [u8; 400],

@@ -50,8 +50,8 @@ fn solution_line(query: &Query, point: &Point) -> Line
     line
 }
 
-/// Prints the line of each of these solutions, in order, with one `write_whole` each. `Failed` where a write failed,
-/// which the sink counts. A prefix of the lines was then written.
+/// Prints the line of each of these solutions, in order, with one `write_whole` each. `Failed` if a write failed, which
+/// the sink counts. Then a prefix of the lines was written.
 pub fn print_solutions<K: Sink>(query: &Query, points: &[Point], sink: &mut K) -> Result<(), Failed>
     requires { All (λ p. length p ≡ length query.now.variables) points.now }
     ensures written { Writes result (lines_of query.now points.now)

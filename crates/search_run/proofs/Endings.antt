@@ -1,4 +1,4 @@
--- How a command ends: where its files were loaded, and where they were not.
+-- How a command ends, if its files were loaded and if they were not.
 -- Used by `list_solutions` and `info`.
 use Rattle.std.proofs.Common.{◌≡◌, ℕ, List, [], Option, Some, None, Ok, MatchOption, refl, sym, ap, ◌∙◌, subst}
 use Rattle.std.specs.Option.{option_map_or}
@@ -20,17 +20,17 @@ use Rattle.search_run.specs.declared.problem.Problem.{Problem}
 use Rattle.search_run.specs.declared.stop.Stop.{Stop}
 use Rattle.search_run.specs.declared.stop.Stop.TheVariants.{Refused, Failed}
 
--- where nothing is printed, a prefix is
+-- if nothing is printed, a prefix is
 nothing_prints_prefix : (whole old : Option (List ℕ)) → MatchOption whole (Unit {0}) (λ bytes. AppendsPrefix old bytes old)
 nothing_prints_prefix None old = tt
 nothing_prints_prefix (Some bytes) old = prefix_nothing old bytes
 
--- nothing is printed where a step was stopped
+-- nothing is printed if a step was stopped
 pub stop_prints_nothing : (whole old : Option (List ℕ)) (s : Stop) (e : Ending) → e ≡ ending_of s → Prints e whole old old
 stop_prints_nothing whole old (Refused r) e is = subst (λ ending. Prints ending whole old old) (sym is) refl
 stop_prints_nothing whole old (Failed f) e is = subst (λ ending. Prints ending whole old old) (sym is) (nothing_prints_prefix whole old)
 
--- what is printed of a problem that was loaded is the text of its files
+-- what is printed for a problem that was loaded is the text of its files
 text_loaded : (held : Option Files) (array query : List ℕ) (p : Problem) (cells : List Cell) (points : List Point) → LoadsProblem (file_of held array) (file_of held query) (Ok p) → cells ≡ p.cells.items
     → points ≡ answer (array_of p.query.rank p.shape.extents cells) p.query
     → MatchOption (told_output_of held (listing array query)) (Unit {0}) (λ bytes. lines_of p.query points ≡ bytes)

@@ -25,7 +25,7 @@ prints_no_text (Some files) (Failed f) old = prefix_nothing old []
 record Left (held : Option Files) (name bytes : List ℕ) (new : Option Files) : Type 0 where
   pub left : (new ≡ held) ⊎ HasPrefix held name bytes new
 
--- what a call that makes a file leaves, where it did not end with `Done`
+-- what a call that makes a file leaves, if it did not end with `Done`
 left_unfinished : (held new : Option Files) (name bytes : List ℕ) (e : Ending) → e ≢ Done → (status_of e ≡ 6 → HasPrefix held name bytes new) → (e ≢ Done → status_of e ≢ 6 → new ≡ held)
     → ((eqb (status_of e) 6 ≡ true) × (status_of e ≡ 6)) ⊎ ((eqb (status_of e) 6 ≡ false) × (status_of e ≢ 6)) → Left held name bytes new
 left_unfinished held new name bytes e unfinished part nothing (inl six) = record { left = inr (part six.1) }

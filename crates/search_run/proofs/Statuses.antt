@@ -1,4 +1,4 @@
--- From an ending to its status: what the ending says of the output, the status says too.
+-- From an ending to its status: what the ending says about the output, the status says too.
 -- Used by the top call.
 use Rattle.std.proofs.Common.{◌≡◌, ℕ, ◌≤◌, List, [], Option, Some, None, inl, inr, sym, ap, ◌∙◌, subst, arith}
 use Rattle.lists.specs.Appending.{AppendsPrefix}

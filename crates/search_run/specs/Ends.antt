@@ -10,29 +10,29 @@ use Rattle.report.specs.declared.ending.Ending.{Ending}
 use Rattle.report.specs.declared.ending.Ending.TheVariants.{Done, Refused, Failed}
 use Rattle.search_run.specs.Meaning.{Meaning, told_verdict_of, told_file_of}
 
--- an ending that is no failure is the verdict, where that is told
+-- an ending that is not a failure is the verdict, if it is told
 abbrev pub EndsAs : Option Ending → Ending → Type 0
 EndsAs told Done = MatchOption told ⊤ (λ verdict. verdict ≡ Done)
 EndsAs told (Refused r) = MatchOption told ⊤ (λ verdict. verdict ≡ Refused r)
 EndsAs told (Failed f) = ⊤
 
--- the command failed, and was not refused
+-- the command failed: it is neither done nor refused
 abbrev pub IsFailed : Ending → Type 0
 IsFailed ending = 5 ≤ status_of ending
 
--- the status is the verdict's, where it is told, or that of a failure
+-- the status is the verdict's, if it is told, or the status of a failure
 abbrev pub IsStatus : Option Ending → ℕ → Type 0
 IsStatus told status = MatchOption told ⊤ (λ verdict. (status ≡ status_of verdict) ⊎ (5 ≤ status))
 
--- the status is the verdict's, where it is told, or that of out of memory
+-- the status is the verdict's, if it is told, or the status of `NoMemory`
 abbrev pub IsStatusOrNoMemory : Option Ending → ℕ → Type 0
 IsStatusOrNoMemory told status = MatchOption told ⊤ (λ verdict. (status ≡ status_of verdict) ⊎ (status ≡ status_of (Failed NoMemory)))
 
--- the whole output was appended, where it is told
+-- the whole output was appended, if it is told
 abbrev pub PrintsWhole : Option (List ℕ) → Option (List ℕ) → Option (List ℕ) → Type 0
 PrintsWhole told old new = MatchOption told ⊤ (λ bytes. new ≡ appended old bytes)
 
--- a prefix of the whole output was appended, where it is told
+-- a prefix of the whole output was appended, if it is told
 abbrev pub PrintsPrefix : Option (List ℕ) → Option (List ℕ) → Option (List ℕ) → Type 0
 PrintsPrefix told old new = MatchOption told ⊤ (λ bytes. AppendsPrefix old bytes new)
 
@@ -42,13 +42,13 @@ Prints Done told old new = PrintsWhole told old new
 Prints (Refused r) told old new = new ≡ old
 Prints (Failed f) told old new = PrintsPrefix told old new
 
--- the files are what they were, with the file that is made under its name, where that is told
+-- the file that is made was added to the files under its name, and the others are the same, if all this is told
 abbrev pub MakesFile : Option (Option (List ℕ × List ℕ)) → Option Files → Option Files → Type 0
 MakesFile (Some (Some (name, bytes))) old new = new ≡ with_file old name bytes
 MakesFile (Some None) old new = new ≡ old
 MakesFile None old new = new ≡ old
 
--- the files are what they were, or a prefix of the file that is made came under its name, where that is told
+-- the files are the same, or a prefix of the file that is made was added under its name, if all this is told
 abbrev pub LeavesFile : Option (Option (List ℕ × List ℕ)) → Option Files → Option Files → Type 0
 LeavesFile (Some (Some (name, bytes))) old new = (new ≡ old) ⊎ HasPrefix old name bytes new
 LeavesFile (Some None) old new = new ≡ old
@@ -58,7 +58,7 @@ LeavesFile None old new = new ≡ old
 pub record RunsAs (m : Meaning) (ending : Ending) (old new : ShelfState) : Type 0 where
   -- the ending is the verdict, unless something failed
   pub verdict : EndsAs (told_verdict_of old.holds m) ending
-  -- its file was made at `Done`, a prefix of it may be there where a write failed, and otherwise no file changed
+  -- its file was made at `Done`, a prefix of it may be there if a write failed, and otherwise no file changed
   pub made : ending ≡ Done → MakesFile (told_file_of old.holds m) old.holds new.holds
   pub left : LeavesFile (told_file_of old.holds m) old.holds new.holds
   pub unmade : ending ≢ Done → status_of ending ≢ 6 → new.holds ≡ old.holds
@@ -70,6 +70,6 @@ pub record RunsAs (m : Meaning) (ending : Ending) (old new : ShelfState) : Type 
   pub lent : new.lent ≡ old.lent
   pub making : new.making ≡ old.making
 
--- the line of an ending with this status was written; the ending is the verdict, where that is told and nothing failed
+-- the line of an ending with this status was written. The ending is the verdict, if it is told and nothing failed
 abbrev pub SaysEnding : Option Ending → ℕ → Type 0 → Option (List ℕ) → Option (List ℕ) → Type 0
 SaysEnding told status fact old new = (ending : Ending) × (status ≡ status_of ending) × EndsAs told ending × Says (message_of ending) fact old new

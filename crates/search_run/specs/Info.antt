@@ -29,7 +29,7 @@ file_info bytes = info_text (stored_layout (take 96 bytes)) (record_of_array (st
 abbrev pub array_refusal : List ℕ → Option Refusal
 array_refusal bytes = option_map refusal.Array (refusal_of bytes)
 
--- what `info` prints of an array file, and nothing where it is refused
+-- what `info` prints of an array file, and nothing if it is refused
 abbrev pub info_output : List ℕ → List ℕ
 info_output array = option_map_or (λ r. []) (refusal_of array) (file_info array)
 
@@ -45,7 +45,7 @@ describing array =
 
 -- ---- loading
 
--- these are the layout and the record of the array file, or the refusal is its own, where the bytes are told
+-- these are the layout and the record of the array file, or this is its refusal, if the bytes are told
 abbrev pub LoadsInfo : Option (List ℕ) → Result ArrayInfo Stop → Type 0
 LoadsInfo told (Ok i) = MatchOption told ⊤ (λ bytes. (refusal_of bytes ≡ None) × (i.layout ≡ stored_layout (take 96 bytes)) × (i.cells ≡ record_of_array (stored_array bytes)))
 LoadsInfo told (Err (Refused r)) = MatchOption told ⊤ (λ bytes. array_refusal bytes ≡ Some r)

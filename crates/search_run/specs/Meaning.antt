@@ -7,13 +7,13 @@ use Rattle.report.specs.declared.ending.Refusal.TheVariants.{Words}
 use Rattle.report.specs.declared.ending.Ending.{Ending}
 use Rattle.report.specs.declared.ending.Ending.TheVariants.{Done, Refused}
 
--- what a command does where nothing fails
+-- what a command does if nothing fails
 pub record Meaning : Type 0 where
   -- why it is refused on these files, if it is
   pub refusal : Files → Option Refusal
   -- what it prints
   pub output : Files → List ℕ
-  -- the name and the bytes of the file that it makes, where it makes one
+  -- the name and the bytes of the file that it makes, if it makes one
   pub file : Files → Option (List ℕ × List ℕ)
   -- which names it opens or creates, in order
   pub openings : List (List ℕ)
@@ -33,7 +33,7 @@ abbrev pub verdict_of : Option Refusal → Ending
 verdict_of None = Done
 verdict_of (Some r) = Refused r
 
--- the verdict, the output and the file of what is done, where the files are told
+-- the verdict, the output and the file of what is done, if the files are told
 abbrev pub told_verdict_of : Option Files → Meaning → Option Ending
 told_verdict_of held m = option_map (λ files. verdict_of (m.refusal files)) held
 

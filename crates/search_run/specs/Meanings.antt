@@ -8,7 +8,7 @@ use Rattle.search_run.specs.Problem.{listing}
 use Rattle.search_run.specs.Texts.{packing}
 use Rattle.search_run.specs.Info.{describing}
 
--- what each command means; nothing where it is not built
+-- what each command means; nothing if it is not built
 abbrev pub meaning : Command → Option Meaning
 meaning (solo array query) = Some (listing array query)
 meaning (verify array query) = Some (listing array query)
@@ -16,7 +16,7 @@ meaning (pack text array) = Some (packing text array)
 meaning (info array) = Some (describing array)
 meaning (search array query solvers validators frames strips summary) = None
 
--- what words mean; nothing where they name no command that is built
+-- what words mean; nothing if they name no command that is built
 abbrev pub meaning_in : List Text → Option Meaning
 meaning_in words = option_and_then meaning (command_in words)
 

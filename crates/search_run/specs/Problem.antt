@@ -21,12 +21,12 @@ use Rattle.search_run.specs.declared.stop.Stop.TheVariants.{Refused, Failed}
 abbrev pub stated_query : List ℕ → List ℕ → Walked QueryParts
 stated_query array query = walk (stored_array array).rank query
 
--- the refusal of a query; none where it is read
+-- the refusal of a query; none if it is read
 abbrev pub query_refusal : Walked QueryParts → Option Refusal
 query_refusal (Ok q) = None
 query_refusal (Err r) = Some (refusal.Query r)
 
--- the lines of the solutions of a query on an array, and none where the query is refused
+-- the lines of the solutions of a query on an array, and none if the query is refused
 abbrev pub query_output : Array → Walked QueryParts → List ℕ
 query_output a (Ok q) = text_of a q
 query_output a (Err r) = []
@@ -35,7 +35,7 @@ query_output a (Err r) = []
 abbrev pub problem_refusal : List ℕ → List ℕ → Option Refusal
 problem_refusal array query = option_map_or (λ r. Some (refusal.Array r)) (refusal_of array) (query_refusal (stated_query array query))
 
--- the lines of the solutions of the query in one file on the array in another, and none where one of them is refused
+-- the lines of the solutions of the query in one file on the array in another, and none if one of them is refused
 abbrev pub problem_output : List ℕ → List ℕ → List ℕ
 problem_output array query = option_map_or (λ r. []) (refusal_of array) (query_output (stored_array array) (stated_query array query))
 
@@ -51,30 +51,30 @@ listing array query =
 
 -- ---- loading
 
--- the query is for arrays of this rank, and it is the one that the bytes state, or the refusal is theirs, where they are told
+-- the query is for arrays of this rank. It is the one that the bytes state, or this is their refusal, if they are told
 abbrev pub LoadsQuery : ℕ → Option (List ℕ) → Result Query Stop → Type 0
 LoadsQuery rank told (Ok q) = (q.rank ≡ rank) × MatchOption told ⊤ (λ bytes. walk rank bytes ≡ Ok q)
 LoadsQuery rank told (Err (Refused r)) = MatchOption told ⊤ (λ bytes. query_refusal (walk rank bytes) ≡ Some r)
 LoadsQuery rank told (Err (Failed f)) = ⊤
 
--- the query is the one that a query file states for arrays of the rank of an array file, where both are told
+-- the query is the one that a query file states for arrays of the rank of an array file, if both are told
 abbrev pub IsStatedQuery : Option (List ℕ) → Option (List ℕ) → Query → Type 0
 IsStatedQuery array query q = MatchOption array ⊤ (λ a. MatchOption query ⊤ (λ bytes. walk (stored_array a).rank bytes ≡ Ok q))
 
--- the array file is not refused, and the rank, the shape and the cells are those of its array, where its bytes are told
+-- the array file is not refused, and the rank, the shape and the cells are its array's, if its bytes are told
 abbrev pub LoadsArray : Option (List ℕ) → Problem → Type 0
 LoadsArray told p = MatchOption told ⊤ (λ bytes. (refusal_of bytes ≡ None) × (p.query.rank ≡ (stored_array bytes).rank) × (array_of (stored_array bytes).rank p.shape.extents p.cells.items ≡ stored_array bytes))
 
--- the refusal is the first one of the two files, where both are told
+-- the refusal is the first one of the two files, if both are told
 abbrev pub IsProblemRefusal : Option (List ℕ) → Option (List ℕ) → Refusal → Type 0
 IsProblemRefusal array query r = MatchOption array ⊤ (λ a. MatchOption query ⊤ (λ q. problem_refusal a q ≡ Some r))
 
--- the array and the query of the bytes, or the first refusal of the two, where they are told
+-- the array and the query that the bytes state, or the first refusal of the two, if they are told
 abbrev pub LoadsProblem : Option (List ℕ) → Option (List ℕ) → Result Problem Stop → Type 0
 LoadsProblem array query (Ok p) = LoadsArray array p × IsStatedQuery array query p.query
 LoadsProblem array query (Err (Refused r)) = IsProblemRefusal array query r
 LoadsProblem array query (Err (Failed f)) = ⊤
 
--- the bytes are those that are told
+-- these are the told bytes
 abbrev pub IsTold : Option (List ℕ) → List ℕ → Type 0
 IsTold told bytes = MatchOption told ⊤ (λ all. bytes ≡ all)

@@ -1,5 +1,5 @@
--- What stops a step of a command, and what the faults of lower crates come to.
--- Used by all that loads or makes a file.
+-- What stops a step of a command, and which stop each fault of a lower crate becomes.
+-- Used by every function that loads or makes a file.
 use Rattle.std.specs.Prelude.{◌≡◌, ◌≢◌, ◌⊎◌, ℕ}
 use Rattle.array_file.specs.declared.header.HeaderFault.{HeaderFault}
 use Rattle.array_file.specs.declared.header.HeaderFault.TheVariants as header
@@ -21,7 +21,7 @@ use Rattle.report.specs.declared.ending.Ending.TheVariants as ending
 use Rattle.search_run.specs.declared.stop.Stop.{Stop}
 use Rattle.search_run.specs.declared.stop.Stop.TheVariants.{Refused, Failed}
 
--- the ending of a command that this stops
+-- the ending of a command that this stop ends
 abbrev pub ending_of : Stop → Ending
 ending_of (Refused r) = ending.Refused r
 ending_of (Failed f) = ending.Failed f

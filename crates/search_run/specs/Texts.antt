@@ -14,12 +14,12 @@ use Rattle.search_run.specs.Meaning.{Meaning}
 use Rattle.search_run.specs.declared.stop.Stop.{Stop}
 use Rattle.search_run.specs.declared.stop.Stop.TheVariants.{Refused, Failed}
 
--- the refusal of an array text; none where it is read
+-- the refusal of an array text; none if it is read
 abbrev pub text_refusal : Walked (LayoutNumbers × List Cell) → Option Refusal
 text_refusal (Ok a) = None
 text_refusal (Err r) = Some (refusal.Text r)
 
--- the bytes of the array file of a text; nothing where the text is refused
+-- the bytes of the array file of a text; nothing if the text is refused
 abbrev pub packed_bytes : Walked (LayoutNumbers × List Cell) → Option (List ℕ)
 packed_bytes (Ok (layout, cells)) = Some (array_bytes layout cells)
 packed_bytes (Err r) = None
@@ -40,7 +40,7 @@ packing text array =
 
 -- ---- loading
 
--- the array has all its cells, and it is the one that the bytes state, or the refusal is theirs, where they are told
+-- the array has all its cells. It is the one that the bytes state, or this is their refusal, if they are told
 abbrev pub LoadsText : Option (List ℕ) → Result ArrayText Stop → Type 0
 LoadsText told (Ok a) = (length a.cells.items ≡ product a.layout.extents) × MatchOption told ⊤ (λ bytes. stated_array bytes ≡ Ok (a.layout, a.cells.items))
 LoadsText told (Err (Refused r)) = MatchOption told ⊤ (λ bytes. text_refusal (stated_array bytes) ≡ Some r)

@@ -12,15 +12,15 @@ use Rattle.search_run.specs.Meanings.{meaning_in, done_for}
 abbrev pub asked_by : List (String Global) → Meaning
 asked_by words = done_for (meaning_in (bytes_of_words words))
 
--- how a run with these words ends, where nothing fails
+-- how a run with these words ends, if nothing fails
 abbrev pub told_verdict : Option Files → List (String Global) → Option Ending
 told_verdict held words = told_verdict_of held (asked_by words)
 
--- what is printed where nothing fails
+-- what is printed if nothing fails
 abbrev pub told_output : Option Files → List (String Global) → Option (List ℕ)
 told_output held words = told_output_of held (asked_by words)
 
--- the name and the bytes of the file that is made where nothing fails, where one is made
+-- the name and the bytes of the file that is made if nothing fails; `None` if none is made
 abbrev pub told_file : Option Files → List (String Global) → Option (Option (List ℕ × List ℕ))
 told_file held words = told_file_of held (asked_by words)
 

@@ -20,7 +20,7 @@ pub trait Load {
     /// What it comes to.
     type Value;
 
-    /// What loading may answer, by the bytes of the file, where they are told.
+    /// What loading may answer, by the bytes of the file, if they are told.
     ghost loads: { Self → Option (List ℕ) → Result Self.Value Stop → Type 0 };
 
     /// Loads it. A read fault is one that the source counted.

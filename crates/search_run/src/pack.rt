@@ -41,7 +41,7 @@ impl Load for TextFile {
     }
 }
 
-/// Makes the array file of a layout and its cells. It replaces a file that has the name.
+/// Makes the array file of a layout and its cells. If a file has the name, it is replaced.
 #[tactic(auto, using(lists::proofs::Appending::prefix_whole, lists::proofs::Appending::prefix_nothing))]
 fn make_array<F: Shelf>(name: &str, layout: &Layout, cells: &[Cell], shelf: &mut F) -> Ending
     requires count { length cells.now ≡ product layout.now.extents }

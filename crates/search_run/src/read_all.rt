@@ -10,8 +10,8 @@ use report::Failure;
 use source_io::{ByteSource, read_whole};
 use std::alloc::Global;
 
-/// Reads all bytes of a source. It fails with `Read` only where the source counted a fault, and with `NoMemory`
-/// where there is no memory for the bytes.
+/// Reads all bytes of a source. It fails with `Read` only if the source counted a fault, and with `NoMemory` if there
+/// is no memory for the bytes.
 pub fn read_all<S: ByteSource>(alloc: Global, source: &mut S) -> Result<Vec<u8>, Stop>
     ensures bytes { IfOk result (λ v. IsTold (S.file source.old).bytes v.items) }
     ensures kinds { IfErr result IsReadFaultOrNoMemory }

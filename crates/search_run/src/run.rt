@@ -114,12 +114,12 @@ pub fn run_tool<F: Shelf, O: Sink, E: Sink>(
     ensures silent { 2 ≤ result → result ≤ 4 → O.written out.new ≡ O.written out.old }
     ensures prefix { PrintsPrefix (told_output (F.state shelf.old).holds words.now) (O.written out.old) (O.written out.new) }
 
-    // The line on the error stream is that of the status. A fault of that stream changes no status.
+    // The line on the error stream is the line of the status. A fault of that stream changes no status.
     ensures said { SaysEnding (told_verdict (F.state shelf.old).holds words.now) result
         (Rose (E.faults err.old) (E.faults err.new)) (E.written err.old) (E.written err.new) }
     ensures quiet { result ≡ 0 → E.written err.new ≡ E.written err.old }
 
-    // A fault has its cause. With no cause the status is the verdict's, or memory ran out.
+    // A fault has its cause. If no count rose, the status is the verdict's, or 7.
     ensures read_fault { result ≡ 5 → ReadsFailed (F.state shelf.old) (F.state shelf.new) }
     ensures write_fault { result ≡ 6 →
         Rose (O.faults out.old) (O.faults out.new) ⊎ WritesFailed (F.state shelf.old) (F.state shelf.new) }

@@ -1,5 +1,5 @@
-//! Why a step of a command gives no value, and what the faults of lower crates come to.
-//! Used in this crate by all that loads or makes a file.
+//! Why a step of a command gives no value, and which stop each fault of a lower crate becomes.
+//! Used in this crate by every function that loads or makes a file.
 ghost use Rattle.std.specs.Prelude.{◌≡◌};
 ghost use Rattle.search_run.specs.Stops.{stop_at_header, stop_at_cells, stop_at_query, stop_at_text, stop_for_query, stop_for_text, stop_at_opening, ending_of};
 

@@ -6,8 +6,8 @@ use std::env;
 use std::io::ErrorKind;
 use std::rt::Env;
 
-/// The program's name and the words after it, in order. Where one of them is no UTF-8, no
-/// command reads it: the words are refused. It fails with `NoMemory` where there is no memory for them.
+/// The program's name and the words after it, in order. If one of them is not UTF-8, no command reads it: the words are
+/// refused. It fails with `NoMemory` if there is no memory for them.
 pub fn all_words<R: Env + AllocGlobal>(rt: &R) -> Result<Vec<String>, Ending> {
     match env::args(rt) {
         Ok(words) => words
@@ -18,7 +18,7 @@ pub fn all_words<R: Env + AllocGlobal>(rt: &R) -> Result<Vec<String>, Ending> {
     }
 }
 
-/// The words after the first, which is the program's name; none where there is no first.
+/// The words after the first one, which is the program's name. If there is no first word, there are none.
 pub fn after_name(words: &[String]) -> &[String]
     ensures { result.now ≡ drop 1 words.now }
 {

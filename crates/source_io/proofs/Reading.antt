@@ -17,13 +17,13 @@ rising : (a c b : ℕ) (rs : List (ℕ × ℕ)) → RisingBelow a c b rs → Ris
 rising a c b [] h = tt
 rising a c b (r ∷ rs) h = (h.0, h.2, h.3, rising (r.0 + 1) c b rs h.4)
 
--- one read more, which begins at c or above it, and below d
+-- one more read, which begins at c or above it, and below d
 rising_more : (a c d b : ℕ) (rs : List (ℕ × ℕ)) (r : ℕ × ℕ) → RisingBelow a c b rs → a ≤ r.0 → c ≤ r.0 → r.0 < d → 0 < r.1 → r.0 + r.1 ≤ b → RisingBelow a d b (rs ++ r ∷ [])
 rising_more a c d b [] r h from above below some within = (from, below, some, within, tt)
 rising_more a c d b (q ∷ rs) r h from above below some within =
     (h.0, omega arith, h.2, h.3, rising_more (q.0 + 1) c d b rs r h.4 (omega arith) above below some within)
 
--- ---- records of reads, where they are told
+-- ---- records of reads, if they are told
 
 -- as `Asks`, and each added read begins below c
 abbrev pub AsksBelow : Option (List (ℕ × ℕ)) → Option (List (ℕ × ℕ)) → ℕ → ℕ → ℕ → Type 0

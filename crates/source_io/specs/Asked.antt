@@ -1,18 +1,18 @@
--- Which reads were asked of a source: their offsets and lengths, where they are told.
+-- Which reads were asked of a source: their offsets and lengths, if they are told.
 -- Used to say which parts of a file a function reads.
 use Rattle.std.specs.Prelude.{◌≡◌, ℕ, ◌+◌, ◌<◌, ◌≤◌, List, [], ◌∷◌, ◌++◌, map, Option, Some, None}
 
--- reads of which none is empty, each lies within the offsets from a up to b, and each begins after the beginning of the one before
+-- reads that are not empty. Each lies within the offsets from a up to b, and begins after the beginning of the one before
 abbrev pub Rising : ℕ → ℕ → List (ℕ × ℕ) → Type 0
 Rising a b [] = Unit {0}
 Rising a b (r ∷ rs) = (a ≤ r.0) × (0 < r.1) × (r.0 + r.1 ≤ b) × Rising (r.0 + 1) b rs
 
--- reads that rise within the offsets from a up to b were added to the record, where it is told
+-- reads that rise within the offsets from a up to b were added to the record, if it is told
 abbrev pub Asks : Option (List (ℕ × ℕ)) → Option (List (ℕ × ℕ)) → ℕ → ℕ → Type 0
 Asks None new a b = new ≡ None
 Asks (Some old) new a b = (more : List (ℕ × ℕ)) × (new ≡ Some (old ++ more)) × Rising a b more
 
--- this read was added to the record, where it is told
+-- this read was added to the record, if it is told
 abbrev pub AsksOne : Option (List (ℕ × ℕ)) → Option (List (ℕ × ℕ)) → ℕ × ℕ → Type 0
 AsksOne None new r = new ≡ None
 AsksOne (Some old) new r = new ≡ Some (old ++ r ∷ [])
@@ -27,7 +27,7 @@ pub record Read : Type 0 where
 abbrev pub reads_of : List ℕ → List (ℕ × ℕ) → List Read
 reads_of name reads = map (λ r. record { name = name; offset = r.0; len = r.1 }) reads
 
--- a shelf's record after a source came back: with the source's reads at its end, where all is told
+-- a shelf's record after a source came back: with the source's reads at its end, if all this is told
 abbrev pub asked_under : Option (List ℕ) → Option (List (ℕ × ℕ)) → Option (List Read) → Option (List Read)
 asked_under (Some name) (Some reads) (Some before) = Some (before ++ reads_of name reads)
 asked_under (Some name) (Some reads) None = None

@@ -3,7 +3,7 @@
 use Rattle.std.specs.Prelude.{ℕ, ◌==◌, if◌then◌else◌, min, List, map}
 use Rattle.std.specs.List.{filter}
 
--- how many of the wanted bytes a call takes: at most the step, and all where the step is 0
+-- how many of the wanted bytes a call takes: at most the step, and all if the step is 0
 abbrev pub bytes_per_call : ℕ → ℕ → ℕ
 bytes_per_call step wanted = if step == 0 then wanted else min step wanted
 

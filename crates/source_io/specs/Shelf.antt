@@ -7,7 +7,7 @@ use Rattle.source_io.specs.Files.{Files}
 
 -- what a shelf shows at one moment
 pub record ShelfState : Type 0 where
-  -- the files by their names, where they are told
+  -- the files by their names, if they are told
   pub holds : Option Files
   -- how many openings and creatings failed
   pub faults : ℕ
@@ -15,9 +15,9 @@ pub record ShelfState : Type 0 where
   pub source_faults : ℕ
   -- how many writes to the finished files failed
   pub sink_faults : ℕ
-  -- each recorded read of the sources that were handed back, with the name, where they are told
+  -- each recorded read of the sources that were handed back, with the name, if they are told
   pub asked : Option (List Read)
-  -- the names that were opened or created, in order, also those where it failed, where they are told
+  -- the names that were opened or created, in order, also those where it failed, if they are told
   pub opened : Option (List (List ℕ))
   -- how many sources are lent and not handed back
   pub lent : ℕ

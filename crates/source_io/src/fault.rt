@@ -1,4 +1,4 @@
-//! Why the outside did not do what it was to do. All traits answer with these.
+//! Why a call on the outside did nothing. All traits answer with these.
 
 /// A read or a write that was not done.
 #[derive(Clone, Copy, Debug, PartialEq, Eq)]

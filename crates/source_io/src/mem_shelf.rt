@@ -31,7 +31,7 @@ pub struct MemShelf {
 }
 
 impl MemShelf {
-    /// A shelf of these files, each a name and its bytes. Of files with one name the first counts.
+    /// A shelf of these files, each a name and its bytes. Of several files with one name, the first counts.
     pub fn new(alloc: Global, files: Vec<(String, Vec<u8>)>, plan: Plan) -> MemShelf
         ensures { ⟦<MemShelf as Shelf>⟧.state result ≡ record {
           holds = Some (files_of files.items);
@@ -58,22 +58,21 @@ impl MemShelf {
         }
     }
 
-    /// The bytes of the file that has the name. `None` where no file has it. A file that was created is
-    /// there once it is finished.
+    /// The bytes of the file that has the name. `None` if no file has it. A created file is there once it is finished.
     pub fn file(&self, name: &str) -> Option<&[u8]>
         ensures { option_map (λ files. get files name.now) (⟦<MemShelf as Shelf>⟧.state self.now).holds ≡ Some (option_copied result) }
     {
         find_file(self.files.as_slice(), name)
     }
 
-    /// The names that were opened or created, in order, also those where it failed.
+    /// The names that were opened or created, in order, even if this failed.
     pub fn opened(&self) -> &[String]
         ensures { (⟦<MemShelf as Shelf>⟧.state self.now).opened ≡ Some (map string_bytes result.now) }
     {
         self.opened.as_slice()
     }
 
-    /// The sources that came back, in that order. Each has its name and the record of its reads.
+    /// The sources that came back, in the order in which they did. Each has its name and the record of its reads.
     pub fn returned(&self) -> &[MemSource]
         ensures { (⟦<MemShelf as Shelf>⟧.state self.now).asked ≡ Some (flat_map reads_by result.now) }
     {
@@ -195,7 +194,7 @@ impl Shelf for MemShelf {
         Ok(sink)
     }
 
-    // The file comes before the others, so that it counts in place of one that has its name.
+    // The file is put before the others, so it counts in place of a file with the same name.
     fn finish(&mut self, _name: &str, out: MemSink) {
         self.sink_faults = self.sink_faults.saturating_add(out.faults());
         let name = self.making.take().unwrap();

@@ -1,4 +1,4 @@
-//! A sink in memory: what a file becomes that is created on a shelf in memory.
+//! A sink in memory: a created file of a shelf in memory.
 ghost use Rattle.std.specs.Prelude.{◌≡◌, ◌+◌, ◌≤◌, [], Some, IfOk, vec_len, vec_capacity};
 
 use crate::plan::bytes_per_call;
@@ -18,9 +18,9 @@ pub struct MemSink {
 }
 
 impl MemSink {
-    /// A sink that can hold `room` bytes. A write takes at most `step` bytes, where 0 means all, and no more
-    /// than there is room for. Writes are numbered from 1, failed ones included. One fails if its number is in
-    /// `fails`, or if no room is left. `NoMemory` where there is no memory for the bytes.
+    /// A sink that can hold `room` bytes. A write takes at most `step` bytes, where 0 means all, and no more than there
+    /// is room for. Writes are numbered from 1, failed ones included. A write fails if its number is in `fails`, or if
+    /// no room is left. `NoMemory` if there is no memory for the bytes.
     pub fn new(
         alloc: Global,
         room: usize,

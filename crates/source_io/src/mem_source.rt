@@ -24,8 +24,8 @@ pub struct MemSource {
 }
 
 impl MemSource {
-    /// A source of these bytes, opened as `name`. The plan says which reads fail on the opening of this number.
-    /// `NoMemory` where there is no memory for the copies of the name, the bytes and the plan, or for the record.
+    /// A source of these bytes, opened as `name`. The plan says which reads fail on the opening with this number.
+    /// `NoMemory` if there is no memory for the copies of the name, the bytes and the plan, or for the record.
     pub(crate) fn new(
         alloc: Global,
         name: &str,

@@ -21,8 +21,8 @@ pub struct Plan {
 }
 
 impl Plan {
-    /// A plan by which nothing fails, and each read and write takes all. A source can record `room` reads,
-    /// and a created file can have `room` bytes.
+    /// A plan in which nothing fails, and each read and write takes all. A source can record `room` reads, and a
+    /// created file can have `room` bytes.
     pub fn calm(alloc: Global, room: usize) -> Plan
         ensures opens { result.opens.items ≡ [] }
         ensures reads { result.reads.items ≡ [] }
@@ -39,7 +39,7 @@ impl Plan {
         }
     }
 
-    /// The writes that fail on what the creating of this number gives, by their numbers.
+    /// The numbers of the writes that fail on the file with this number of creating.
     pub(crate) fn writes_on(&self, alloc: Global, creating: u64) -> Result<Vec<u64>, AllocError>
         ensures { IfOk result (λ writes. writes.items ≡ writes_of creating self.now.writes.items) }
     {
@@ -51,7 +51,7 @@ impl Plan {
     }
 }
 
-/// How many of the wanted bytes a call takes: at most `step`, and all where `step` is 0.
+/// How many of the wanted bytes a call takes: at most `step`, and all if `step` is 0.
 pub(crate) fn bytes_per_call(step: usize, wanted: usize) -> usize
     ensures { result ≡ plan.bytes_per_call step wanted }
 {

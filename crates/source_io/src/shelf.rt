@@ -22,8 +22,8 @@ pub trait Shelf {
 
     /// Lends the file with a name.
     ///
-    /// `Failed` where the file was not opened, also because no file has the name. The shelf counts it.
-    /// `NoMemory` leaves everything as it was.
+    /// `Failed` if the file was not opened, also because no file has the name. The shelf counts it. `NoMemory` leaves
+    /// everything unchanged.
     fn open(&mut self, name: &str) -> Result<Self::Source, OpenFault>
         requires { (state self.old).lent < 2 ^ 32 }
         ensures held { OnOk result (IsHeld (state self.old).holds name.now) }
@@ -53,10 +53,10 @@ pub trait Shelf {
         ensures finishes_nothing { FinishesNothing (state self.old) (state self.new) }
         ensures same_making { (state self.new).making ≡ (state self.old).making };
 
-    /// Begins a file with a name, and gives the sink that takes its bytes. Where the shelf tells its files,
-    /// the sink tells what it took. The files stay as they are until the new one is finished.
+    /// Begins a file with a name, and gives the sink that takes its bytes. If the shelf tells its files, the sink tells
+    /// what it took. The files stay the same until the new one is finished.
     ///
-    /// `Failed` where the file was not created. The shelf counts it. `NoMemory` leaves everything as it was.
+    /// `Failed` if the file was not created. The shelf counts it. `NoMemory` leaves everything unchanged.
     fn create(&mut self, name: &str) -> Result<Self::Out, OpenFault>
         requires { (state self.old).making ≡ None }
         ensures told { IfOk result (λ out. IfSome (state self.old).holds (λ _. Self.Out.written out ≡ Some [])) }

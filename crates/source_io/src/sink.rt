@@ -8,14 +8,14 @@ use crate::Failed;
 
 /// What takes bytes, such as standard output or a created file.
 pub trait Sink {
-    /// The bytes that it took, in order, where they are told.
+    /// The bytes that it took, in order, if they are told.
     ghost written: { Self → Option (List ℕ) };
 
     /// How many writes failed.
     ghost faults: { Self → ℕ };
 
     /// Takes a prefix of the piece, at least one byte, and answers how many bytes it took.
-    /// `Failed` where the write failed. The sink counts it, and took nothing.
+    /// `Failed` if the write failed. The sink counts it, and took nothing.
     fn write(&mut self, piece: &[u8]) -> Result<usize, Failed>
         requires { 0 < length piece.now }
         ensures count { IfOk result (λ n. (0 < n) × (n ≤ length piece.now)) }
@@ -25,8 +25,8 @@ pub trait Sink {
         ensures faults { faults self.old ≤ faults self.new };
 }
 
-/// Writes the whole piece, by as many writes as it takes. An empty piece makes no write.
-/// `Failed` where one of them failed. The sink then took a prefix of the piece.
+/// Writes the whole piece, with as many writes as are needed. An empty piece makes no write. `Failed` if one of them
+/// failed. The sink then took a prefix of the piece.
 pub fn write_whole<K: Sink>(sink: &mut K, piece: &[u8]) -> Result<(), Failed>
     ensures written { Writes result piece.now (K.written sink.old) (K.written sink.new) }
     ensures cause { OnErr result (Rose (K.faults sink.old) (K.faults sink.new)) }

@@ -11,7 +11,7 @@ pub trait ByteSource {
     /// The file: its bytes, its length and its name. It never changes.
     ghost file: { Self → StoredFile };
 
-    /// The offset and the length of each recorded read, in order, where they are told.
+    /// The offset and the length of each recorded read, in order, if they are told.
     ghost asked: { Self → Option (List (ℕ × ℕ)) };
 
     /// How many reads failed.
@@ -23,7 +23,7 @@ pub trait ByteSource {
         ensures told { SizeIs (file self.now).bytes result };
 
     /// Reads bytes from an offset on to the beginning of `into`, at least one, and answers how many.
-    /// `Failed` where the read failed. The source counts it, and `into` is unchanged.
+    /// `Failed` if the read failed. The source counts it, and `into` is unchanged.
     fn read_at(&mut self, offset: u64, into: &mut [u8]) -> Result<usize, Failed>
         requires some { 0 < length into.old }
         requires within { offset + length into.old ≤ (file self.old).len }
@@ -41,8 +41,8 @@ pub trait ByteSource {
         ensures same_file { file self.new ≡ file self.old };
 }
 
-/// Fills the whole of `into` with the bytes from an offset on, by as many reads as it takes. An empty `into`
-/// makes no read. `Failed` where one of them failed.
+/// Fills the whole of `into` with the bytes from an offset on, with as many reads as are needed. If `into` is empty,
+/// there is no read. `Failed` if one of them failed.
 pub fn read_whole<S: ByteSource>(src: &mut S, offset: u64, into: &mut [u8]) -> Result<(), Failed>
     requires { offset + length into.old ≤ (S.file src.old).len }
     ensures bytes { OnOk result (Holds (S.file src.old).bytes offset (length into.old) into.new) }

@@ -2,7 +2,7 @@
 ghost use Rattle.std.specs.Prelude.{◌≡◌, ◌+◌, ◌-◌, ◌^◌, min};
 ghost use Rattle.source_io.specs.Told.{Rose};
 
-/// A count of faults after one fault more. It ends at `u64::MAX`.
+/// A count of faults after one more fault. It ends at `u64::MAX`.
 pub fn one_more(faults: u64) -> u64
     ensures value { result ≡ min (faults + 1) (2 ^ 64 - 1) }
     ensures rose { Rose faults result }

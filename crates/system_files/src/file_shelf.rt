@@ -112,8 +112,8 @@ where
     }
 }
 
-/// The file with a path, open for reading, and its metadata.
-/// `None` where it cannot be opened, where there is no metadata, and where it is not a regular file.
+/// The file with a path, open for reading, and its metadata. `None` if it cannot be opened, has no metadata, or is not
+/// a regular file.
 fn open_file<R: Files>(rt: &R, path: &str) -> Option<(R::File, Metadata)>
     ensures { IfSome result (λ opened. IsFile (file_type opened.1)) }
 {

@@ -22,8 +22,8 @@ pub struct FileSource<F> {
 }
 
 impl<F: FileExt> FileSource<F> {
-    /// A source over an open file, with the size in its metadata and no faults.
-    /// `NoMemory` where there is no memory for the buffer. The file is then closed.
+    /// A source over an open file, with the size in its metadata and no faults. `NoMemory` if there is no memory for
+    /// the buffer. The file is then closed.
     pub fn new(alloc: Global, file: F, metadata: &Metadata) -> Result<FileSource<F>, NoMemory>
     where
         F: Drop,

@@ -1,7 +1,7 @@
 //! The system's files and streams, as the sources, sinks and shelf of `source_io`.
-//! This is the trusted edge: no clause tells what a file holds or what a stream took. That a read, a write or an
-//! opening failed shows in the counts, by the clauses of `source_io`. What the system does is what std's clauses
-//! say of its calls.
+//! This is the trusted edge: no clause says what a file holds or what a stream took. The counts show whether a read, a
+//! write or an opening failed, by the clauses of `source_io`. What the system does is what std's clauses say of its
+//! calls.
 //!
 //! There are no definitions here. It stands on `source_io`. The program `searchlight` runs on it.
 #![tactic(auto)]

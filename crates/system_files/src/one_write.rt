@@ -5,8 +5,8 @@ ghost use Rattle.std.specs.Io.KnownBytes.{Keeps, Appends};
 use crate::tries::TRIES;
 use std::io::{ErrorKind, Write};
 
-/// Makes one write, and answers how many bytes it took. `None` where it failed, or took no byte.
-/// A write that a signal interrupts is tried again, `TRIES` times in all.
+/// Makes one write, and answers how many bytes it took. `None` if it failed, or took no byte. A write that a signal
+/// interrupts is tried again, `TRIES` times in all.
 pub fn write_some<W: Write>(writer: &mut W, piece: &[u8]) -> Option<usize>
     ensures count { IfSome result (λ n. (0 < n) × (n ≤ length piece.now)) }
     ensures taken { IfSome result (λ n. Appends (W.contents writer.old) (W.contents writer.new) (take n piece.now)) }

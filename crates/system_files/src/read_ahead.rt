@@ -8,27 +8,28 @@ use std::alloc::Global;
 use std::io::ErrorKind;
 use std::os::unix::fs::FileExt;
 
-/// The size of the buffer in bytes. One read of the system takes at most so many.
+/// The size of the buffer in bytes. One read of the system takes at most this many.
 pub const ROOM: usize = 65536;
 
-/// Some bytes of a file that were read and may be handed out. A read that continues where the one before ended
-/// fills the buffer, so that the next ones need not ask the system. Any other reads only what is wanted.
+/// Some bytes of a file that were read and may be handed out. A read that begins where the last one ended fills the
+/// buffer, so that the next reads need not ask the system. Any other read asks only for the bytes that are wanted.
 #[derive(Drop)]
 pub struct ReadAhead {
-    /// It begins with the bytes of the file that are held. What follows them is not of the file.
+    /// It begins with the bytes of the file that are held. The bytes after them are not from the file.
     pub buffer: Vec<u8>,
     /// The offset in the file of the first byte that is held.
     pub start: u64,
     /// How many bytes are held.
     pub held: usize,
-    /// The offset after the byte that was handed out last. `u64::MAX`, which is no offset of a file, before that.
+    /// The offset after the last byte that was handed out. Before the first, it is `u64::MAX`, which is no offset of a
+    /// file.
     pub next: u64,
     ghost room: { vec_len buffer ≡ ROOM },
     ghost within: { held ≤ vec_len buffer },
 }
 
 impl ReadAhead {
-    /// A buffer that holds nothing. `NoMemory` where there is no memory for it.
+    /// A buffer that holds nothing. `NoMemory` if there is no memory for it.
     pub fn new(alloc: Global) -> Result<ReadAhead, NoMemory>
         ensures { IfOk result (λ ahead. ahead.held ≡ 0) }
     {
@@ -51,8 +52,8 @@ impl ReadAhead {
         offset >= self.start && offset - self.start < self.held as u64
     }
 
-    /// Reads from an offset on, where `wanted` bytes are asked for and the file has `left` bytes. Answers whether
-    /// at least one byte was read. It then holds what was read, and otherwise nothing.
+    /// Reads from an offset on. `wanted` bytes are asked for, and the file has `left` bytes from there. Answers whether
+    /// at least one byte was read. If so, the buffer then holds the bytes that were read. Otherwise it holds nothing.
     pub fn fetch<F: FileExt>(&mut self, file: &F, offset: u64, wanted: u64, left: u64) -> bool
         requires some { 0 < wanted }
         requires within { wanted ≤ left }
@@ -89,8 +90,8 @@ impl ReadAhead {
     }
 }
 
-/// Makes one read of at most so many bytes from an offset on, and answers how many were read. `None` where it
-/// failed, or read no byte. A read that a signal interrupts is tried again, `TRIES` times in all.
+/// Makes one read of at most so many bytes from an offset on, and answers how many were read. `None` if it failed, or
+/// read no byte. A read that a signal interrupts is tried again, `TRIES` times in all.
 fn read_some<F: FileExt>(file: &F, offset: u64, most: usize, into: &mut [u8]) -> Option<usize>
     requires { most ≤ length into.old }
     ensures count { IfSome result (λ n. (0 < n) × (n ≤ most)) }

@@ -9,8 +9,8 @@ use crate::one_write::write_some;
 use source_io::{Failed, Sink};
 use std::io::Write;
 
-/// A writer that bytes go to: `rt.stdout()`, `rt.stderr()` or a created file. As a sink it does not tell what it took.
-/// The writer has to pass on what it takes at once, as those do: a buffer would hide a fault.
+/// A writer that takes bytes: `rt.stdout()`, `rt.stderr()` or a created file. As a sink it does not tell what it took.
+/// The writer has to pass bytes on at once, as these do: a buffer would hide a fault.
 #[derive(Drop)]
 pub struct WriterSink<W> {
     /// What takes the bytes.
@@ -53,7 +53,7 @@ impl<W: Write> Sink for WriterSink<W> {
         ensures cause { OnErr result (Rose self.old.faults self.new.faults) }
         ensures faults { self.old.faults ≤ self.new.faults }
 
-        // Where the contents of the writer are known, it took exactly the bytes that the answer counts.
+        // If the contents of the writer are known, it took exactly the bytes that the answer counts.
         ensures taken { IfOk result (λ n. Appends (W.contents self.old.writer) (W.contents self.new.writer) (take n piece.now)) }
         ensures kept { OnErr result (Keeps (W.contents self.old.writer) (W.contents self.new.writer)) }
     {
