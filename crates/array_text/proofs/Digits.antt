@@ -8,7 +8,7 @@ use Rattle.std.proofs.Math.Nat.{pow-succ', pow-le-pow_right}
 use Rattle.std.proofs.lemmas.Bool.{lt-leb}
 use Rattle.array_text.specs.Numbers.{digit_of, digits_from, number_written}
 use Rattle.array_text.specs.Words.{is_blank, first_word}
-use Rattle.array_text.proofs.Fronts.{first_word-blank, first_word-more}
+use Rattle.array_text.proofs.FirstWords.{first_word-blank, first_word-more}
 
 -- after the last digit, the number is known
 pub digits_from-end : (bs : List ℕ) (i v : ℕ) → i < length bs → is_blank (get_or bs i 0) ≡ true → digits_from v (first_word (drop i bs)) ≡ Some v

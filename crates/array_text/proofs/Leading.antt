@@ -6,17 +6,17 @@ use Rattle.std.proofs.lemmas.Bool.{lt-leb, le-leb, ne_eqb}
 use Rattle.std.proofs.lemmas.Int.{ints}
 use Rattle.cells.specs.Cells.{empty_cell}
 use Rattle.array_text.specs.Numbers.{digits_from, number_written, up_to, number_up_to, cell_number, stored, positive_cell, negative_cell, number_cell, cell_of}
-use Rattle.array_text.specs.Words.{is_blank, first_word, behind_word}
+use Rattle.array_text.specs.Words.{is_blank, first_word, after_word}
 use Rattle.array_text.specs.Reads.{leading}
 use Rattle.array_text.proofs.Digits.{number_written-other}
 
 -- ---- any form
 
 pub leading-none : {X : Type 0} (form : List ℕ → Option X) (bs : List ℕ) → form (first_word bs) ≡ None → None ≡ leading form bs
-leading-none form bs e = sym (ap (option_map (λ x. (x, behind_word bs))) e)
+leading-none form bs e = sym (ap (option_map (λ x. (x, after_word bs))) e)
 
-pub leading-some : {X : Type 0} (form : List ℕ → Option X) (bs : List ℕ) (x : X) → form (first_word bs) ≡ Some x → Some (x, behind_word bs) ≡ leading form bs
-leading-some form bs x e = sym (ap (option_map (λ x. (x, behind_word bs))) e)
+pub leading-some : {X : Type 0} (form : List ℕ → Option X) (bs : List ℕ) (x : X) → form (first_word bs) ≡ Some x → Some (x, after_word bs) ≡ leading form bs
+leading-some form bs x e = sym (ap (option_map (λ x. (x, after_word bs))) e)
 
 -- ---- numbers
 
@@ -51,14 +51,14 @@ pub first_word-none : (bs : List ℕ) → length bs ≡ 0 → first_word bs ≡ 
 first_word-none [] none = refl
 first_word-none (b ∷ bs) none = absurd (omega arith)
 
-pub behind_word-none : (bs : List ℕ) → length bs ≡ 0 → behind_word bs ≡ bs
-behind_word-none [] none = refl
-behind_word-none (b ∷ bs) none = absurd (omega arith)
+pub after_word-none : (bs : List ℕ) → length bs ≡ 0 → after_word bs ≡ bs
+after_word-none [] none = refl
+after_word-none (b ∷ bs) none = absurd (omega arith)
 
 -- if the word ends after the point, it is the empty cell
-pub leading-empty : (bs : List ℕ) → first_word bs ≡ [] → behind_word bs ≡ bs → Some (empty_cell, bs) ≡ leading cell_of (46 ∷ bs)
+pub leading-empty : (bs : List ℕ) → first_word bs ≡ [] → after_word bs ≡ bs → Some (empty_cell, bs) ≡ leading cell_of (46 ∷ bs)
 unfolding cell_of
-leading-empty bs first behind = ap (λ b. Some (empty_cell, b)) (sym behind) ∙ leading-some cell_of (46 ∷ bs) empty_cell (ap (λ w. cell_of (46 ∷ w)) first)
+leading-empty bs first after = ap (λ b. Some (empty_cell, b)) (sym after) ∙ leading-some cell_of (46 ∷ bs) empty_cell (ap (λ w. cell_of (46 ∷ w)) first)
 
 no_digit : (w : List ℕ) → digits_from 0 (46 ∷ w) ≡ None
 unfolding digits_from
@@ -80,8 +80,8 @@ leading-point b bs rest is blank =
 pub first_word-ends : (b : ℕ) (bs rest : List ℕ) → rest ≡ b ∷ bs → is_blank b ≡ true → first_word rest ≡ []
 first_word-ends b bs rest is blank = ap first_word is ∙ ap (λ p. cond p [] (b ∷ first_word bs)) blank
 
-pub behind_word-ends : (b : ℕ) (bs rest : List ℕ) → rest ≡ b ∷ bs → is_blank b ≡ true → behind_word rest ≡ rest
-behind_word-ends b bs rest is blank = ap behind_word is ∙ ap (λ p. cond p (b ∷ bs) (behind_word bs)) blank ∙ sym is
+pub after_word-ends : (b : ℕ) (bs rest : List ℕ) → rest ≡ b ∷ bs → is_blank b ≡ true → after_word rest ≡ rest
+after_word-ends b bs rest is blank = ap after_word is ∙ ap (λ p. cond p (b ∷ bs) (after_word bs)) blank ∙ sym is
 
 -- a form that goes on from what another one gives
 abbrev both : {X Y : Type 0} → (X → Y) → X × List ℕ → Y × List ℕ
@@ -93,7 +93,7 @@ mapped f (Some x) b = refl
 
 leading-below : (bs : List ℕ) → leading cell_of (45 ∷ bs) ≡ option_map (both (λ n. stored (neg_ℤ (pos n)))) (leading (number_up_to 2147483647) bs)
 unfolding cell_of
-leading-below bs = mapped (λ n. stored (neg_ℤ (pos n))) (cell_number (first_word bs)) (behind_word bs)
+leading-below bs = mapped (λ n. stored (neg_ℤ (pos n))) (cell_number (first_word bs)) (after_word bs)
 
 pub leading-below-none : (bs : List ℕ) → None ≡ leading (number_up_to 2147483647) bs → None ≡ leading cell_of (45 ∷ bs)
 leading-below-none bs e = ap (option_map (both (λ n. stored (neg_ℤ (pos n))))) e ∙ sym (leading-below bs)
@@ -119,12 +119,12 @@ positive_word b w point minus =
     ap (λ p. cond (p && bytes_eq w []) (Some empty_cell) (number_cell (b ∷ w))) (ne_eqb b 46 point)
     ∙ ap (λ p. cond p (negative_cell w) (positive_cell (b ∷ w))) (ne_eqb b 45 minus)
 
-positive_front : (b : ℕ) (w : List ℕ) (p : Bool) → b ≢ 46 → b ≢ 45 → cell_of (cond p [] (b ∷ w)) ≡ positive_cell (cond p [] (b ∷ w))
-positive_front b w true point minus = no_word ∙ sym (positive_cell-none [] (number_written-none [] refl))
-positive_front b w false point minus = positive_word b w point minus
+cell_of-positive : (b : ℕ) (w : List ℕ) (p : Bool) → b ≢ 46 → b ≢ 45 → cell_of (cond p [] (b ∷ w)) ≡ positive_cell (cond p [] (b ∷ w))
+cell_of-positive b w true point minus = no_word ∙ sym (positive_cell-none [] (number_written-none [] refl))
+cell_of-positive b w false point minus = positive_word b w point minus
 
 pub leading-positive : (b : ℕ) (bs bytes : List ℕ) → bytes ≡ b ∷ bs → b ≢ 46 → b ≢ 45 → leading positive_cell bytes ≡ leading cell_of bytes
 leading-positive b bs bytes is point minus =
     let same : cell_of (first_word bytes) ≡ positive_cell (first_word bytes) =
-    ap (λ l. cell_of (first_word l)) is ∙ positive_front b (first_word bs) (is_blank b) point minus ∙ ap (λ l. positive_cell (first_word l)) (sym is) in
-    ap (option_map (λ x. (x, behind_word bytes))) (sym same)
+    ap (λ l. cell_of (first_word l)) is ∙ cell_of-positive b (first_word bs) (is_blank b) point minus ∙ ap (λ l. positive_cell (first_word l)) (sym is) in
+    ap (option_map (λ x. (x, after_word bytes))) (sym same)

@@ -1,4 +1,4 @@
-pub mod Fronts
+pub mod FirstWords
 pub mod Digits
 pub mod Leading
 pub mod Levels

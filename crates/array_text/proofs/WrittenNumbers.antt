@@ -27,19 +27,19 @@ then_digit : (f g : ℕ → Option ℕ) (o : Option ℕ) (v n : ℕ) → ((d : �
 then_digit f g None v n more e = cc
 then_digit f g (Some d) v n more e = more d e
 
-digits_from-behind : (m : ℕ) (ds : List ℕ) (v e : ℕ) → e < 10 → digits_from m ds ≡ Some v → digits_from m (ds ++ (48 + e) ∷ []) ≡ Some (10 * v + e)
+digits_from-last : (m : ℕ) (ds : List ℕ) (v e : ℕ) → e < 10 → digits_from m ds ≡ Some v → digits_from m (ds ++ (48 + e) ∷ []) ≡ Some (10 * v + e)
 unfolding digits_from
-digits_from-behind m [] v e below is =
+digits_from-last m [] v e below is =
     let same : m ≡ v = cc in
     ap (option_and_then (λ d. Some (10 * m + d))) (digit_of-digit e below) ∙ ap (λ k. Some (10 * k + e)) same
-digits_from-behind m (b ∷ ds) v e below is =
+digits_from-last m (b ∷ ds) v e below is =
     then_digit (λ d. digits_from (10 * m + d) ds) (λ d. digits_from (10 * m + d) (ds ++ (48 + e) ∷ [])) (digit_of b) v (10 * v + e)
-    (λ d. digits_from-behind (10 * m + d) ds v e below) is
+    (λ d. digits_from-last (10 * m + d) ds v e below) is
 
 digits_from-decimal : (n : ℕ) → n < 2 ^ 64 → digits_from 0 (decimal n) ≡ Some n
 digits_from-decimal = decimal_by_steps (λ n ds. digits_from 0 ds ≡ Some n)
     (λ n below. digits_from-one 0 n below ∙ ap Some (omega arith))
-    (λ n ds some is. digits_from-behind 0 ds (n / 10) (n % 10) (omega arith) is ∙ ap Some (omega arith))
+    (λ n ds some is. digits_from-last 0 ds (n / 10) (n % 10) (omega arith) is ∙ ap Some (omega arith))
 
 pub layout_number-decimal : (n : ℕ) → n < 4294967296 → layout_number (decimal n) ≡ Some n
 layout_number-decimal n few =

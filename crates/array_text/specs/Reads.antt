@@ -5,7 +5,7 @@ use Rattle.array_text.specs.declared.fault.TextFault.{TextFault}
 use Rattle.array_text.specs.declared.fault.TextFault.TheVariants.{Refused, NoMemory}
 use Rattle.array_text.specs.declared.fault.TextRefusal.{TextRefusal}
 use Rattle.array_text.specs.Walk.{Walked, Rest}
-use Rattle.array_text.specs.Words.{words, first_word, behind_word}
+use Rattle.array_text.specs.Words.{words, first_word, after_word}
 
 -- a value is seen as the one that the walk gives, or it is the walk's refusal, or memory ran out
 abbrev pub Gives : {T X : Type 0} → (T → X) → Walked X → Result T TextFault → Type 0
@@ -24,4 +24,4 @@ rest_of next bytes = record { next = next; words = words bytes }
 
 -- what a form reads in the first word, and the bytes after it
 abbrev pub leading : {X : Type 0} → (List ℕ → Option X) → List ℕ → Option (X × List ℕ)
-leading form bytes = option_map (λ x. (x, behind_word bytes)) (form (first_word bytes))
+leading form bytes = option_map (λ x. (x, after_word bytes)) (form (first_word bytes))

@@ -29,11 +29,11 @@ first_word [] = []
 first_word (b ∷ bs) = if is_blank b then [] else b ∷ first_word bs
 
 -- the bytes from the first blank on
-abbrev pub behind_word : List ℕ → List ℕ
-behind_word [] = []
-behind_word (b ∷ bs) = if is_blank b then b ∷ bs else behind_word bs
+abbrev pub after_word : List ℕ → List ℕ
+after_word [] = []
+after_word (b ∷ bs) = if is_blank b then b ∷ bs else after_word bs
 
 -- the words of bytes that begin with a word, or of no bytes
 abbrev pub words_at : List ℕ → List (List ℕ)
 words_at [] = []
-words_at (b ∷ bs) = first_word (b ∷ bs) ∷ words (behind_word (b ∷ bs))
+words_at (b ∷ bs) = first_word (b ∷ bs) ∷ words (after_word (b ∷ bs))

@@ -27,7 +27,7 @@ pub(crate) fn skip_blanks(bytes: &[u8]) -> &[u8]
 /// The bytes before the first blank, and the bytes from it on.
 pub(crate) fn split_word(bytes: &[u8]) -> (&[u8], &[u8])
     ensures word { result.0.now ≡ words.first_word bytes.now }
-    ensures behind { result.1.now ≡ words.behind_word bytes.now }
+    ensures after { result.1.now ≡ words.after_word bytes.now }
     ensures lengths { length result.0.now + length result.1.now ≡ length bytes.now }
 {
     for (i, b) in bytes.iter().enumerate() {

@@ -1,7 +1,7 @@
 //! The number or the cell that a word writes. It is read while the word is scanned.
 //! Used in this crate by `text`.
 ghost use Rattle.std.specs.Prelude.{◌≡◌, ◌+◌, ◌<◌, ◌≤◌, ◌∷◌, length, drop, option_map, IfSome, MatchOption};
-ghost use Rattle.array_text.specs.Words.{first_word, behind_word};
+ghost use Rattle.array_text.specs.Words.{first_word, after_word};
 ghost use Rattle.array_text.specs.Numbers.{digit_of, number_written, number_up_to, digits_from, cell_of, positive_cell};
 ghost use Rattle.array_text.specs.Reads.{leading};
 
@@ -51,7 +51,7 @@ fn leading_digits(bytes: &[u8]) -> Option<(u64, usize)>
     ensures count { IfSome result (λ r. r.1 ≡ length (first_word bytes.now)) }
     ensures few { IfSome result (λ r. r.1 ≤ 10) }
     ensures fits { IfSome result (λ r. r.1 ≤ length bytes.now) }
-    ensures behind { IfSome result (λ r. behind_word bytes.now ≡ drop r.1 bytes.now) }
+    ensures after { IfSome result (λ r. after_word bytes.now ≡ drop r.1 bytes.now) }
 {
     let mut value = 0;
     for (i, b) in bytes.iter().enumerate() {

@@ -37,8 +37,8 @@ put_in a k xs ys j d below within =
     get_or-append_right (take a xs) (ys ++ drop k (drop a xs)) a (a + j) d (length-take-le a xs within) (omega arith)
     ∙ ap (λ m. get_or (ys ++ drop k (drop a xs)) m d) here ∙ get_or_append_left ys (drop k (drop a xs)) d j below
 
-put_behind : (a k : ℕ) (xs ys : List Cell) (i : ℕ) (d : Cell) → a + k ≤ i → length ys ≡ k → a ≤ length xs → get_or (put_mid a k xs ys) i d ≡ get_or xs i d
-put_behind a k xs ys i d behind long within =
+put_after : (a k : ℕ) (xs ys : List Cell) (i : ℕ) (d : Cell) → a + k ≤ i → length ys ≡ k → a ≤ length xs → get_or (put_mid a k xs ys) i d ≡ get_or xs i d
+put_after a k xs ys i d past long within =
     let there : a + (k + (i - a - k)) ≡ i = omega arith in
     get_or-append_right (take a xs) (ys ++ drop k (drop a xs)) a i d (length-take-le a xs within) (omega arith)
     ∙ get_or-append_right ys (drop k (drop a xs)) k (i - a) d long (omega arith)
@@ -72,7 +72,7 @@ put_other : (i q size kk k : ℕ) (xs ys : List Cell) (d : Cell) → (q == i) �
 put_other i q size kk k xs ys d other is below is_size long within =
     elim (other_number q i other) [
       | inl less ↦ (let row = row_fits q size i size less (omega arith) in put_below (i * size) kk xs ys k d (omega (arith, row, is, below)) within)
-      | inr more ↦ (let row = row_fits i size q size more (omega arith) in put_behind (i * size) kk xs ys k d (omega (arith, row, is, below, is_size)) long within)
+      | inr more ↦ (let row = row_fits i size q size more (omega arith) in put_after (i * size) kk xs ys k d (omega (arith, row, is, below, is_size)) long within)
     ]
 
 -- the place of a cell of this part
@@ -255,9 +255,9 @@ run_cell s ss source old within whole all room =
                 elim (cases_Bool (nat_lt q (s.to + s.count))) [
                   | inl high ↦ absurd (let yes : is_copied (s ∷ ss) k ≡ true = and_from _ _ (and_from _ _ low high) whole_part in let no : true ≡ false = sym yes ∙ outside in cc)
                   | inr high ↦ (
-                      let behind : s.to + s.count ≤ q = grind (arith, nat_tests) in
-                      let more = mul-le-mul {n₁ = s.to + s.count} {m₁ = size} behind (le_self size) in
-                      put_behind a n old part k d (omega (arith, more, parts)) long (omega (arith, fit))
+                      let past : s.to + s.count ≤ q = grind (arith, nat_tests) in
+                      let more = mul-le-mul {n₁ = s.to + s.count} {m₁ = size} past (le_self size) in
+                      put_after a n old part k d (omega (arith, more, parts)) long (omega (arith, fit))
                       )
                 ]
                 )

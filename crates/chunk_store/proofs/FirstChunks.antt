@@ -24,8 +24,8 @@ use Rattle.grids.proofs.Tilings.{tile_of-below}
 
 -- ---- the places of one more chunk
 
-behind : (c m : ℕ) → m ≤ c → (c ≡ m → ⊥) → m + 1 ≤ c
-behind c m low apart = grind arith
+later : (c m : ℕ) → m ≤ c → (c ≡ m → ⊥) → m + 1 ≤ c
+later c m low apart = grind arith
 
 below_more : (c m : ℕ) → nat_lt c (m + 1) ≡ (nat_lt c m || (c == m))
 below_more c m =
@@ -34,7 +34,7 @@ below_more c m =
       | inr other ↦ (
           elim (cases_Bool (c == m)) [
             | inl even ↦ let same = eqb-true c m even in lt-ltb c (m + 1) (omega (arith, same)) ∙ sym (λ i. other i || even i)
-            | inr odd ↦ le-ltb c (m + 1) (behind c m (ltb-false c m other) (eqb-false c m odd)) ∙ sym (λ i. other i || odd i)
+            | inr odd ↦ le-ltb c (m + 1) (later c m (ltb-false c m other) (eqb-false c m odd)) ∙ sym (λ i. other i || odd i)
           ]
           )
     ]

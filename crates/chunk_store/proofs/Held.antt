@@ -22,11 +22,11 @@ use Rattle.chunk_store.specs.Loaded.{cells_from, HoldsFrom, HoldsChunk}
 -- the number in four of the first n bytes is the number in the same four of all bytes
 number_at-take : (bytes : List ℕ) (n at : ℕ) → at + 4 ≤ n → n ≤ length bytes → little_number 4 (drop at (take n bytes)) ≡ little_number 4 (drop at bytes)
 number_at-take bytes n at inside short =
-    let front = take n bytes in
+    let start = take n bytes in
     let long = length-take-le n bytes short in
-    let whole : drop at bytes ≡ drop at front ++ drop n bytes =
-    ap (drop at) (sym (take-append-drop n bytes)) ∙ drop-append-le at front (drop n bytes) (omega (arith, long)) in
-    sym (ap (little_number 4) whole ∙ little_from-append 4 (drop at front) (drop n bytes) (omega (arith, long, length-drop at front)))
+    let whole : drop at bytes ≡ drop at start ++ drop n bytes =
+    ap (drop at) (sym (take-append-drop n bytes)) ∙ drop-append-le at start (drop n bytes) (omega (arith, long)) in
+    sym (ap (little_number 4) whole ∙ little_from-append 4 (drop at start) (drop n bytes) (omega (arith, long, length-drop at start)))
 
 cell_at-part : (all : List ℕ) (from n at : ℕ) → at + 4 ≤ n → n ≤ length (drop from all) → cell_at (take n (drop from all)) at ≡ cell_at all (from + at)
 unfolding cell_at
@@ -95,9 +95,9 @@ take-put_mid_all : (n m k : ℕ) (cells part : List Cell) → n ≤ length cells
 take-put_mid_all n m k cells part inside is_m =
     let long = length-take-le n cells inside in
     let rest = part ++ post_of n k cells in
-    let front : take n (put_mid n k cells part) ≡ take n cells = take_at (take n cells) rest n long in
-    let behind : drop n (put_mid n k cells part) ≡ rest = drop_at_seam (take n cells) rest n long in
-    take-add n m (put_mid n k cells part) ∙ (λ i. front i ++ take m (behind i)) ∙ ap (λ l. take n cells ++ l) (take_at part (post_of n k cells) m is_m)
+    let start : take n (put_mid n k cells part) ≡ take n cells = take_at (take n cells) rest n long in
+    let after : drop n (put_mid n k cells part) ≡ rest = drop_at_seam (take n cells) rest n long in
+    take-add n m (put_mid n k cells part) ∙ (λ i. start i ++ take m (after i)) ∙ ap (λ l. take n cells ++ l) (take_at part (post_of n k cells) m is_m)
 
 -- no cells
 pub holds_none : (told : Option (List ℕ)) (at : ℕ) → HoldsFrom told at []

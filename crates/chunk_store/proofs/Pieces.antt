@@ -12,10 +12,10 @@ pieces_wider a b c d [] low high h = tt
 pieces_wider a b c d (r ∷ rs) low high h = (omega arith, h.1, h.2, omega arith, pieces_wider (r.0 + 1) (r.0 + 1) c d rs (omega arith) high h.4)
 
 -- pieces after others
-pub pieces_behind : (a b c : ℕ) (rs more : List (ℕ × ℕ)) → a ≤ b → b ≤ c → Pieces a b rs → Pieces b c more → Pieces a c (rs ++ more)
-pieces_behind a b c [] more low high h later = pieces_wider a b c c more low (omega arith) later
-pieces_behind a b c (r ∷ rs) more low high h later =
-    (h.0, h.1, h.2, omega arith, pieces_behind (r.0 + 1) b c rs more (omega arith) high h.4 later)
+pub pieces_after : (a b c : ℕ) (rs more : List (ℕ × ℕ)) → a ≤ b → b ≤ c → Pieces a b rs → Pieces b c more → Pieces a c (rs ++ more)
+pieces_after a b c [] more low high h later = pieces_wider a b c c more low (omega arith) later
+pieces_after a b c (r ∷ rs) more low high h later =
+    (h.0, h.1, h.2, omega arith, pieces_after (r.0 + 1) b c rs more (omega arith) high h.4 later)
 
 -- reads within at most 4,096 bytes are pieces
 pieces_of_rising : (a b : ℕ) (rs : List (ℕ × ℕ)) → b ≤ a + 4096 → Rising a b rs → Pieces a b rs
@@ -41,7 +41,7 @@ pub asks_after : (old mid new : Option (List (ℕ × ℕ))) (a b c : ℕ) → a 
 asks_after None mid new a b c low high h later = subst (λ m. AsksPieces m new b c) h later
 asks_after (Some old) mid new a b c low high h later =
     let more : AsksPieces (Some (old ++ h.0)) new b c = subst (λ m. AsksPieces m new b c) h.1 later in
-    (h.0 ++ more.0, more.1 ∙ ap Some (append_assoc old h.0 more.0), pieces_behind a b c h.0 more.0 low high h.2 more.2)
+    (h.0 ++ more.0, more.1 ∙ ap Some (append_assoc old h.0 more.0), pieces_after a b c h.0 more.0 low high h.2 more.2)
 
 pub asks_piece : (old new : Option (List (ℕ × ℕ))) (a b : ℕ) → b ≤ a + 4096 → Asks old new a b → AsksPieces old new a b
 asks_piece None new a b short h = h

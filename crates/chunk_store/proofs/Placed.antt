@@ -82,8 +82,8 @@ all_placed (Some bytes) l cells is h =
 pub first_begins : (l : LayoutNumbers) → chunk_start l 0 ≡ 96
 first_begins l = grind arith
 
-pub starts_behind_header : (l : LayoutNumbers) (n : ℕ) → 96 ≤ chunk_start l n
-starts_behind_header l n = omega arith
+pub starts_after_header : (l : LayoutNumbers) (n : ℕ) → 96 ≤ chunk_start l n
+starts_after_header l n = omega arith
 
 pub next_begins : (l : LayoutNumbers) (n : ℕ) → chunk_end l n ≡ chunk_start l (n + 1)
 next_begins l n = grind arith

@@ -5,7 +5,7 @@ use Rattle.layouts.specs.declared.numbers.LayoutNumbers.{LayoutNumbers}
 use Rattle.layouts.specs.Chunks.{chunk_cells}
 use Rattle.array_file.specs.Stored.{chunk_start}
 
--- reads of 1 to 4,096 bytes, each of which lies within the offsets from a up to b and begins behind the one before
+-- reads of 1 to 4,096 bytes, each of which lies within the offsets from a up to b and begins after the one before
 abbrev pub Pieces : ℕ → ℕ → List (ℕ × ℕ) → Type 0
 Pieces a b [] = Unit {0}
 Pieces a b (r ∷ rs) = (a ≤ r.0) × (0 < r.1) × (r.1 ≤ 4096) × (r.0 + r.1 ≤ b) × Pieces (r.0 + 1) b rs

@@ -23,9 +23,9 @@ padded_more filler n items x below h =
 pub padded_fresh : {X : Type 0} (filler : X) (items new : List X) → new ≡ items → length items ≤ 8 → IsPadded filler (length items) (new ++ drop (length items) (replicate 8 filler))
 padded_fresh filler items new e few =
     let long : length new ≡ length items = ap length e in
-    let behind : drop (length items) (replicate 8 filler) ≡ replicate (8 - length items) filler = drop-replicate (length items) 8 filler in
+    let filling : drop (length items) (replicate 8 filler) ≡ replicate (8 - length items) filler = drop-replicate (length items) 8 filler in
     record {
       within = few;
-      eight = length-append new (drop (length items) (replicate 8 filler)) ∙ ap (λ l. length new + length l) behind ∙ ap (λ n. length new + n) (length-replicate (8 - length items) filler) ∙ omega arith;
-      rest = drop_at new (drop (length items) (replicate 8 filler)) (length items) long ∙ behind;
+      eight = length-append new (drop (length items) (replicate 8 filler)) ∙ ap (λ l. length new + length l) filling ∙ ap (λ n. length new + n) (length-replicate (8 - length items) filler) ∙ omega arith;
+      rest = drop_at new (drop (length items) (replicate 8 filler)) (length items) long ∙ filling;
     }

@@ -60,8 +60,8 @@ index_of-coordinates_of (n ∷ ns) k h =
 
 -- ---- the order of indices and the order of coordinates
 
-behind : (c d : ℕ) → nat_lt c d ≡ false → (c == d) ≡ false → d < c
-behind c d h k = grind (arith, nat_tests)
+later : (c d : ℕ) → nat_lt c d ≡ false → (c == d) ≡ false → d < c
+later c d h k = grind (arith, nat_tests)
 
 -- by the first coordinates, and then by the rest
 by_first : (p c d i j : ℕ) (rest : Ordering) → i < p → j < p → ((i < j) ↔ (rest ≡ Less)) → (c * p + i < d * p + j) ↔ (ordering_then (nat_cmp c d) rest ≡ Less)
@@ -80,7 +80,7 @@ by_first p c d i j rest first second same =
                 )
             | inr odd ↦ (
                 let e : ordering_then (nat_cmp c d) rest ≡ Greater = (λ k. ordering_then (cond (other k) Less (cond (odd k) Equal Greater)) rest) in
-                let fits = row_fits d p c p (behind c d other odd) (omega arith) in
+                let fits = row_fits d p c p (later c d other odd) (omega arith) in
                 (λ h. absurd (omega (arith, fits)), λ h. let no : Greater ≡ Less = sym e ∙ h in cc)
                 )
           ]

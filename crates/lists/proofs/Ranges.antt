@@ -29,13 +29,13 @@ in_range a (suc n) k (inr h) = let r = in_range (a + 1) n k h in (omega arith, o
 pub filter-range_with_len : (p : ℕ → Bool) (from to n : ℕ) → from ≤ to → to ≤ n
     → ((k : ℕ) → k < from → p k ≡ false) → ((k : ℕ) → from ≤ k → k < to → p k ≡ true) → ((k : ℕ) → to ≤ k → p k ≡ false)
     → filter p (range_with_len 0 n) ≡ range_with_len from (to - from)
-filter-range_with_len p from to n ordered within before inside behind =
+filter-range_with_len p from to n ordered within before inside after =
     let parts : n ≡ from + ((to - from) + (n - to)) = omega arith in
     let first : filter p (range_with_len 0 from) ≡ [] = filter_none p (range_with_len 0 from) (λ k i. let r = in_range 0 from k i in before k (omega arith)) in
     let middle : filter p (range_with_len (0 + from) (to - from)) ≡ range_with_len (0 + from) (to - from) =
     filter_whole p (range_with_len (0 + from) (to - from)) (λ k i. let r = in_range (0 + from) (to - from) k i in inside k (omega arith) (omega arith)) in
     let last : filter p (range_with_len ((0 + from) + (to - from)) (n - to)) ≡ [] =
-    filter_none p (range_with_len ((0 + from) + (to - from)) (n - to)) (λ k i. let r = in_range ((0 + from) + (to - from)) (n - to) k i in behind k (omega arith)) in
+    filter_none p (range_with_len ((0 + from) + (to - from)) (n - to)) (λ k i. let r = in_range ((0 + from) + (to - from)) (n - to) k i in after k (omega arith)) in
     let zero_from : 0 + from ≡ from = omega arith in
     ap (λ k. filter p (range_with_len 0 k)) parts
     ∙ ap (filter p) (range_with_len-add 0 from ((to - from) + (n - to)) ∙ ap (λ l. range_with_len 0 from ++ l) (range_with_len-add (0 + from) (to - from) (n - to)))

@@ -1,6 +1,6 @@
 use Rattle.std.proofs.Common.{◌≡◌, ◌∙◌, ap, sym, arith, length, drop}
 use Rattle.array_text.specs.Words.{words, words_at}
-use Rattle.array_text.proofs.Fronts.{take-rest, words-skip, words-at, words-end}
+use Rattle.array_text.proofs.FirstWords.{take-rest, words-skip, words-at, words-end}
 use Rattle.array_text.proofs.bytes.skip_blanks.Goals as goal
 
 pub returns-then-not-is_blank-clause-words : goal.returns-then-not-is_blank-clause-words

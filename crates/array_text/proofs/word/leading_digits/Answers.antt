@@ -2,7 +2,7 @@ use Rattle.std.proofs.Common.{◌≡◌, ◌+◌, ◌*◌, ◌<◌, ◌∙◌, a
 use Rattle.array_text.specs.Numbers.{digits_from}
 use Rattle.array_text.specs.Words.{is_blank, first_word}
 use Rattle.array_text.proofs.Digits as digits
-use Rattle.array_text.proofs.Fronts as fronts
+use Rattle.array_text.proofs.FirstWords as first_words
 use Rattle.array_text.proofs.word.leading_digits.Goals as goal
 
 pub returns-then-is_blank-clause-digits : goal.returns-then-is_blank-clause-digits
@@ -13,7 +13,7 @@ returns-then-is_blank-clause-digits c =
 pub returns-then-i-eq-MOST_DIGITS-clause-digits : goal.returns-then-i-eq-MOST_DIGITS-clause-digits
 returns-then-i-eq-MOST_DIGITS-clause-digits c =
     let bytes = c.args.bytes.now in
-    let more = ap length (fronts.first_word-more bytes c.loop-i.i c.loop-i-test.true (sym c.is_blank.ensures ∙ c.if-is_blank.false)) in
+    let more = ap length (first_words.first_word-more bytes c.loop-i.i c.loop-i-test.true (sym c.is_blank.ensures ∙ c.if-is_blank.false)) in
     digits.number_written-long (first_word bytes) (omega (arith, more, c.loop-i.invariant.count, c.if-i-eq-MOST_DIGITS.true))
 
 pub returns-in_default-clause-digits : goal.returns-in_default-clause-digits
@@ -32,13 +32,13 @@ loop-i-preserved c =
     let d = c.in-Some.d in
     let v = c.loop-i.value in
     let invariant = c.loop-i.invariant in
-    let more = ap length (fronts.first_word-more bytes i inside no_blank) in
+    let more = ap length (first_words.first_word-more bytes i inside no_blank) in
     let few : d < 10 = c.in-Some.ensures.few in
     record {
       digits = ap (λ n. digits_from (10 * v + n) (first_word (drop (i + 1) bytes))) c.from.ensures
           ∙ sym (digits.digits_from-more bytes i v d inside no_blank (sym c.digit.ensures.digit ∙ c.in-Some.is)) ∙ invariant.digits;
       count = omega (arith, more, invariant.count);
-      behind = sym (fronts.behind_word-more bytes i inside no_blank) ∙ invariant.behind;
+      after = sym (first_words.after_word-more bytes i inside no_blank) ∙ invariant.after;
       few = omega (arith, invariant.few, c.if-i-eq-MOST_DIGITS.false);
       value = omega (arith, digits.digits_fit v d i invariant.value few, c.from.ensures);
     }

@@ -1,7 +1,7 @@
 use Rattle.std.proofs.Common.{◌≡◌, ◌≤◌, ◌∙◌, ap, sym, arith, length, Some}
 use Rattle.array_text.specs.Numbers.{number_up_to}
 use Rattle.array_text.specs.Words.{first_word}
-use Rattle.array_text.proofs.Fronts.{take-rest}
+use Rattle.array_text.proofs.FirstWords.{take-rest}
 use Rattle.array_text.proofs.Leading as lead
 use Rattle.array_text.proofs.word.leading_number.Goals as goal
 
@@ -31,6 +31,6 @@ returns-clause-number c =
     let found = c.in-Some.ensures in
     let some : 1 ≤ length (first_word bytes) = omega (arith, found.count, c.if-count-eq0.false) in
     let few : length (first_word bytes) ≤ 10 = omega (arith, found.count, found.few) in
-    ap (λ after. Some (c.in-Some.value, after)) (take-rest bytes c.in-Some.count ∙ sym found.behind)
+    ap (λ after. Some (c.in-Some.value, after)) (take-rest bytes c.in-Some.count ∙ sym found.after)
     ∙ lead.leading-some (number_up_to c.args.most) bytes c.in-Some.value
     (lead.number_up_to-some c.args.most (first_word bytes) c.in-Some.value some few found.digits (omega (arith, c.from.ensures, c.if-value-from.false)))

@@ -4,7 +4,7 @@ use Rattle.std.proofs.Common.{◌≡◌, ℕ, suc, ◌+◌, ◌-◌, ◌<◌, Bo
 use Rattle.std.proofs.lemmas.List.{take_all}
 use Rattle.std.specs.List.{slice_split, onto_first}
 use Rattle.std.proofs.Math.Seq.{drop-cons, drop-length}
-use Rattle.array_text.specs.Words.{is_blank, is_some_word, words, first_word, behind_word, words_at}
+use Rattle.array_text.specs.Words.{is_blank, is_some_word, words, first_word, after_word, words_at}
 
 -- the bytes from a place on
 pub drop_at : (bs : List ℕ) (i : ℕ) → i < length bs → drop i bs ≡ get_or bs i 0 ∷ drop (i + 1) bs
@@ -24,15 +24,15 @@ first_word-blank bs i h blank = ap first_word (drop_at bs i h) ∙ ap (λ b. con
 pub first_word-more : (bs : List ℕ) (i : ℕ) → i < length bs → is_blank (get_or bs i 0) ≡ false → first_word (drop i bs) ≡ get_or bs i 0 ∷ first_word (drop (i + 1) bs)
 first_word-more bs i h blank = ap first_word (drop_at bs i h) ∙ ap (λ b. cond b [] (get_or bs i 0 ∷ first_word (drop (i + 1) bs))) blank
 
-pub behind_word-blank : (bs : List ℕ) (i : ℕ) → i < length bs → is_blank (get_or bs i 0) ≡ true → behind_word (drop i bs) ≡ drop i bs
-behind_word-blank bs i h blank =
-    ap behind_word (drop_at bs i h)
-    ∙ ap (λ b. cond b (get_or bs i 0 ∷ drop (i + 1) bs) (behind_word (drop (i + 1) bs))) blank ∙ sym (drop_at bs i h)
+pub after_word-blank : (bs : List ℕ) (i : ℕ) → i < length bs → is_blank (get_or bs i 0) ≡ true → after_word (drop i bs) ≡ drop i bs
+after_word-blank bs i h blank =
+    ap after_word (drop_at bs i h)
+    ∙ ap (λ b. cond b (get_or bs i 0 ∷ drop (i + 1) bs) (after_word (drop (i + 1) bs))) blank ∙ sym (drop_at bs i h)
 
-pub behind_word-more : (bs : List ℕ) (i : ℕ) → i < length bs → is_blank (get_or bs i 0) ≡ false → behind_word (drop i bs) ≡ behind_word (drop (i + 1) bs)
-behind_word-more bs i h blank =
-    ap behind_word (drop_at bs i h)
-    ∙ ap (λ b. cond b (get_or bs i 0 ∷ drop (i + 1) bs) (behind_word (drop (i + 1) bs))) blank
+pub after_word-more : (bs : List ℕ) (i : ℕ) → i < length bs → is_blank (get_or bs i 0) ≡ false → after_word (drop i bs) ≡ after_word (drop (i + 1) bs)
+after_word-more bs i h blank =
+    ap after_word (drop_at bs i h)
+    ∙ ap (λ b. cond b (get_or bs i 0 ∷ drop (i + 1) bs) (after_word (drop (i + 1) bs))) blank
 
 -- ---- words
 
@@ -56,14 +56,14 @@ split_first (b ∷ bs) =
     ap (λ parts. cond (is_blank b) ([] ∷ slice_split is_blank bs) (onto_first b parts)) (split_first bs)
     ∙ split_here b (is_blank b) (first_word bs) (later bs) (slice_split is_blank bs)
 
-later_here : (b : ℕ) (bs : List ℕ) (p : Bool) → is_blank b ≡ p → filter is_some_word (later bs) ≡ words (behind_word bs)
-    → filter is_some_word (cond p (slice_split is_blank bs) (later bs)) ≡ words (cond p (b ∷ bs) (behind_word bs))
+later_here : (b : ℕ) (bs : List ℕ) (p : Bool) → is_blank b ≡ p → filter is_some_word (later bs) ≡ words (after_word bs)
+    → filter is_some_word (cond p (slice_split is_blank bs) (later bs)) ≡ words (cond p (b ∷ bs) (after_word bs))
 unfolding words
 later_here b bs true blank rest = sym (words-blank b bs blank)
 later_here b bs false blank rest = rest
 
 -- they are the words after the first one
-later_words : (bs : List ℕ) → filter is_some_word (later bs) ≡ words (behind_word bs)
+later_words : (bs : List ℕ) → filter is_some_word (later bs) ≡ words (after_word bs)
 unfolding words
 later_words [] = refl
 later_words (b ∷ bs) = later_here b bs (is_blank b) refl (later_words bs)
@@ -76,7 +76,7 @@ words-word b bs blank =
     ap (filter is_some_word) (split_first (b ∷ bs))
     ∙ ap (λ w. filter is_some_word (w ∷ later (b ∷ bs))) word
     ∙ ap (λ ws. (b ∷ first_word bs) ∷ ws) (later_words (b ∷ bs))
-    ∙ ap (λ w. w ∷ words (behind_word (b ∷ bs))) (sym word)
+    ∙ ap (λ w. w ∷ words (after_word (b ∷ bs))) (sym word)
 
 pub words-skip : (bs : List ℕ) (i : ℕ) → i < length bs → is_blank (get_or bs i 0) ≡ true → words (drop i bs) ≡ words (drop (i + 1) bs)
 words-skip bs i h blank = ap words (drop_at bs i h) ∙ words-blank (get_or bs i 0) (drop (i + 1) bs) blank
