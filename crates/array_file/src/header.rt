@@ -1,6 +1,6 @@
 //! The header of an array file, read and written.
 //! Used in this crate by `writing`, and by `search_run`.
-ghost use Rattle.std.specs.Prelude.{◌≡◌, ◌+◌, ◌≤◌, Some, None, length, min, MatchResult, IfOk, IsErrOf};
+ghost use Rattle.std.specs.Prelude.{◌≡◌, ◌+◌, ◌≤◌, ◌⊎◌, Some, None, length, min, MatchResult, IfOk, IsErrOf};
 ghost use Rattle.source_io.specs.Told.{Rose};
 ghost use Rattle.source_io.specs.Asked.{Asks};
 ghost use Rattle.lists.specs.Rules.{first_broken};
@@ -110,6 +110,7 @@ pub fn read_header<S: ByteSource>(src: &mut S) -> Result<Layout, HeaderFault>
     ensures size { IfOk result (λ l. parts.file_size l ≡ (S.file src.old).len) }
     ensures cause { IsErrOf result HeaderFault.Read → Rose (S.faults src.old) (S.faults src.new) }
     ensures faults { S.faults src.old ≤ S.faults src.new }
+    ensures no_fault { (S.faults src.new ≡ S.faults src.old) ⊎ IsErrOf result HeaderFault.Read }
     ensures asked { Asks (S.asked src.old) (S.asked src.new) 0 (min 96 (S.file src.old).len) }
     ensures same_file { S.file src.new ≡ S.file src.old }
 {

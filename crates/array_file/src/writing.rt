@@ -1,6 +1,6 @@
 //! Writing whole array files, for the command `pack`.
 //! Used by `search_run`.
-ghost use Rattle.std.specs.Prelude.{◌≡◌, ◌+◌, ◌*◌, ◌≤◌, length, OnErr};
+ghost use Rattle.std.specs.Prelude.{◌≡◌, ◌+◌, ◌*◌, ◌≤◌, length, OnOk, OnErr};
 ghost use Rattle.source_io.specs.Told.{Rose};
 ghost use Rattle.source_io.specs.Written.{Writes};
 ghost use Rattle.lists.specs.Numbers.{product};
@@ -43,6 +43,7 @@ fn write_piece<K: Sink>(
     ensures written { Writes result (bytes_of_cells cells.now) (K.written sink.old) (K.written sink.new) }
     ensures cause { OnErr result (Rose (K.faults sink.old) (K.faults sink.new)) }
     ensures faults { K.faults sink.old ≤ K.faults sink.new }
+    ensures no_fault { OnOk result (K.faults sink.new ≡ K.faults sink.old) }
 {
     let piece = &mut bytes[..4 * cells.len()];
     put_bytes(cells, piece);
@@ -58,6 +59,7 @@ fn write_cells<K: Sink>(
     ensures written { Writes result (bytes_of_cells cells.now) (K.written sink.old) (K.written sink.new) }
     ensures cause { OnErr result (Rose (K.faults sink.old) (K.faults sink.new)) }
     ensures faults { K.faults sink.old ≤ K.faults sink.new }
+    ensures no_fault { OnOk result (K.faults sink.new ≡ K.faults sink.old) }
 {
     let mut done = 0;
     while done < cells.len() {
@@ -81,6 +83,7 @@ fn write_each<K: Sink>(
     ensures written { Writes result (bytes_of_chunks layout.now cells.now (chunk_count layout.now)) (K.written sink.old) (K.written sink.new) }
     ensures cause { OnErr result (Rose (K.faults sink.old) (K.faults sink.new)) }
     ensures faults { K.faults sink.old ≤ K.faults sink.new }
+    ensures no_fault { OnOk result (K.faults sink.new ≡ K.faults sink.old) }
 {
     let chunk = &mut room[..layout.chunk_cells() as usize];
     for n in 0..layout.chunks() {
@@ -96,6 +99,7 @@ fn write_chunks<K: Sink>(layout: &Layout, cells: &[Cell], sink: &mut K) -> Resul
     ensures written { Writes result (bytes_of_chunks layout.now cells.now (chunk_count layout.now)) (K.written sink.old) (K.written sink.new) }
     ensures cause { OnErr result (Rose (K.faults sink.old) (K.faults sink.new)) }
     ensures faults { K.faults sink.old ≤ K.faults sink.new }
+    ensures no_fault { OnOk result (K.faults sink.new ≡ K.faults sink.old) }
 {
     let mut room = [Cell(0); CHUNK_ROOM];
     let mut bytes = [0; PIECE_BYTES];
@@ -110,6 +114,7 @@ pub fn write_array<K: Sink>(layout: &Layout, cells: &[Cell], sink: &mut K) -> Re
     ensures written { Writes result (array_bytes layout.now cells.now) (K.written sink.old) (K.written sink.new) }
     ensures cause { OnErr result (Rose (K.faults sink.old) (K.faults sink.new)) }
     ensures faults { K.faults sink.old ≤ K.faults sink.new }
+    ensures no_fault { OnOk result (K.faults sink.new ≡ K.faults sink.old) }
 {
     let mut header = [0; HEADER_BYTES];
     write_layout(layout, &mut header);

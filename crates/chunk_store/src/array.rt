@@ -1,6 +1,6 @@
 //! All cells of an array file.
 //! Used in this crate by `summary`, and by `search_run`.
-ghost use Rattle.std.specs.Prelude.{◌≡◌, ◌+◌, ◌<◌, ◌≤◌, length, IfOk, OnOk, OnErr, IsErrOf};
+ghost use Rattle.std.specs.Prelude.{◌≡◌, ◌+◌, ◌<◌, ◌≤◌, ◌⊎◌, length, IfOk, OnOk, OnErr, IsErrOf};
 ghost use Rattle.source_io.specs.Told.{Rose};
 ghost use Rattle.lists.specs.Numbers.{product};
 ghost use Rattle.layouts.specs.Chunks.{chunk_cells, chunk_count};
@@ -45,6 +45,7 @@ fn add_chunk<S: ByteSource>(
     ensures frame { length frame.new.cells ≡ chunk_cells layout.now }
     ensures cause { OnErr result (Rose (S.faults src.old) (S.faults src.new)) }
     ensures faults { S.faults src.old ≤ S.faults src.new }
+    ensures no_fault { OnOk result (S.faults src.new ≡ S.faults src.old) }
     ensures asked { AsksPieces (S.asked src.old) (S.asked src.new) (chunk_start layout.now n) (chunk_end layout.now n) }
     ensures same_file { S.file src.new ≡ S.file src.old }
 {
@@ -66,6 +67,7 @@ fn add_chunks<S: ByteSource>(
     ensures cells { OnOk result (HoldsCells (S.file src.old).bytes layout.now cells.new) }
     ensures cause { OnErr result (Rose (S.faults src.old) (S.faults src.new)) }
     ensures faults { S.faults src.old ≤ S.faults src.new }
+    ensures no_fault { OnOk result (S.faults src.new ≡ S.faults src.old) }
     ensures asked { AsksPieces (S.asked src.old) (S.asked src.new) 96 (file_size layout.now) }
     ensures same_file { S.file src.new ≡ S.file src.old }
 {
@@ -90,6 +92,7 @@ pub fn read_cells<S: ByteSource>(
     ensures few { IfOk result (λ cells. length cells.items ≤ MOST_CELLS) }
     ensures cause { IsErrOf result CellsFault.Read → Rose (S.faults src.old) (S.faults src.new) }
     ensures faults { S.faults src.old ≤ S.faults src.new }
+    ensures no_fault { (S.faults src.new ≡ S.faults src.old) ⊎ IsErrOf result CellsFault.Read }
     ensures asked { AsksPieces (S.asked src.old) (S.asked src.new) 96 (file_size layout.now) }
     ensures same_file { S.file src.new ≡ S.file src.old }
 {

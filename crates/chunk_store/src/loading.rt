@@ -52,6 +52,7 @@ fn read_piece<S: ByteSource>(
     ensures cells { OnOk result (HoldsFrom (S.file src.old).bytes at cells.new) }
     ensures cause { OnErr result (Rose (S.faults src.old) (S.faults src.new)) }
     ensures faults { S.faults src.old ≤ S.faults src.new }
+    ensures no_fault { OnOk result (S.faults src.new ≡ S.faults src.old) }
     ensures asked { AsksPieces (S.asked src.old) (S.asked src.new) at (at + 4 * length cells.old) }
     ensures same_file { S.file src.new ≡ S.file src.old }
 {
@@ -67,6 +68,7 @@ fn read_pieces<S: ByteSource>(src: &mut S, at: u64, cells: &mut [Cell]) -> Resul
     ensures cells { OnOk result (HoldsFrom (S.file src.old).bytes at cells.new) }
     ensures cause { OnErr result (Rose (S.faults src.old) (S.faults src.new)) }
     ensures faults { S.faults src.old ≤ S.faults src.new }
+    ensures no_fault { OnOk result (S.faults src.new ≡ S.faults src.old) }
     ensures asked { AsksPieces (S.asked src.old) (S.asked src.new) at (at + 4 * length cells.old) }
     ensures same_file { S.file src.new ≡ S.file src.old }
 {
@@ -99,6 +101,7 @@ pub fn load<S: ByteSource>(
     ensures frame { length into.new.cells ≡ length into.old.cells }
     ensures cause { OnErr result (Rose (S.faults src.old) (S.faults src.new)) }
     ensures faults { S.faults src.old ≤ S.faults src.new }
+    ensures no_fault { OnOk result (S.faults src.new ≡ S.faults src.old) }
     ensures asked { AsksPieces (S.asked src.old) (S.asked src.new) (chunk_start layout.now n) (chunk_end layout.now n) }
     ensures same_file { S.file src.new ≡ S.file src.old }
 {

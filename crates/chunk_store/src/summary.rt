@@ -1,6 +1,6 @@
 //! The record of all cells of an array file.
 //! Used by `search_run`.
-ghost use Rattle.std.specs.Prelude.{◌≡◌, ◌+◌, ◌<◌, ◌≤◌, length, IfOk, OnErr, IsErrOf};
+ghost use Rattle.std.specs.Prelude.{◌≡◌, ◌+◌, ◌<◌, ◌≤◌, ◌⊎◌, length, IfOk, OnOk, OnErr, IsErrOf};
 ghost use Rattle.source_io.specs.Told.{Rose};
 ghost use Rattle.lists.specs.Numbers.{product};
 ghost use Rattle.layouts.specs.Chunks.{chunk_cells, chunk_count};
@@ -34,6 +34,7 @@ fn add_record<S: ByteSource>(
     ensures frame { length frame.new.cells ≡ chunk_cells layout.now }
     ensures cause { OnErr result (Rose (S.faults src.old) (S.faults src.new)) }
     ensures faults { S.faults src.old ≤ S.faults src.new }
+    ensures no_fault { OnOk result (S.faults src.new ≡ S.faults src.old) }
     ensures asked { AsksPieces (S.asked src.old) (S.asked src.new) (chunk_start layout.now n) (chunk_end layout.now n) }
     ensures same_file { S.file src.new ≡ S.file src.old }
 {
@@ -55,6 +56,7 @@ fn add_records<S: ByteSource>(
     ensures count { IfOk result (λ r. r.count ≤ product layout.now.extents) }
     ensures cause { OnErr result (Rose (S.faults src.old) (S.faults src.new)) }
     ensures faults { S.faults src.old ≤ S.faults src.new }
+    ensures no_fault { OnOk result (S.faults src.new ≡ S.faults src.old) }
     ensures asked { AsksPieces (S.asked src.old) (S.asked src.new) 96 (file_size layout.now) }
     ensures same_file { S.file src.new ≡ S.file src.old }
 {
@@ -79,6 +81,7 @@ pub fn array_record<S: ByteSource>(
     ensures count { IfOk result (λ r. r.count ≤ product layout.now.extents) }
     ensures cause { IsErrOf result CellsFault.Read → Rose (S.faults src.old) (S.faults src.new) }
     ensures faults { S.faults src.old ≤ S.faults src.new }
+    ensures no_fault { (S.faults src.new ≡ S.faults src.old) ⊎ IsErrOf result CellsFault.Read }
     ensures asked { AsksPieces (S.asked src.old) (S.asked src.new) 96 (file_size layout.now) }
     ensures same_file { S.file src.new ≡ S.file src.old }
 {

@@ -1,6 +1,6 @@
 //! The lines that `info` prints: a layout and the record of an array's cells.
 //! Used by the command `info` of `search_run`.
-ghost use Rattle.std.specs.Prelude.{◌≡◌, ◌+◌, ◌*◌, ◌<◌, ◌≤◌, ◌++◌, length, OnErr};
+ghost use Rattle.std.specs.Prelude.{◌≡◌, ◌+◌, ◌*◌, ◌<◌, ◌≤◌, ◌++◌, length, OnOk, OnErr};
 ghost use Rattle.std.specs.Fmt.{signed_decimal};
 ghost use Rattle.source_io.specs.Told.{Rose};
 ghost use Rattle.source_io.specs.Written.{Writes};
@@ -115,6 +115,7 @@ fn print_levels<K: Sink>(layout: &Layout, sink: &mut K) -> Result<(), Failed>
     ensures written { Writes result (level_lines layout.now) (K.written sink.old) (K.written sink.new) }
     ensures cause { OnErr result (Rose (K.faults sink.old) (K.faults sink.new)) }
     ensures faults { K.faults sink.old ≤ K.faults sink.new }
+    ensures no_fault { OnOk result (K.faults sink.new ≡ K.faults sink.old) }
 {
     for level in 0..layout.levels() {
         let line = level_line(layout, level);
@@ -129,6 +130,7 @@ pub fn print_info<K: Sink>(layout: &Layout, cells: Record, sink: &mut K) -> Resu
     ensures written { Writes result (info.info_text layout.now cells) (K.written sink.old) (K.written sink.new) }
     ensures cause { OnErr result (Rose (K.faults sink.old) (K.faults sink.new)) }
     ensures faults { K.faults sink.old ≤ K.faults sink.new }
+    ensures no_fault { OnOk result (K.faults sink.new ≡ K.faults sink.old) }
 {
     write_whole(sink, shape_lines(layout).as_bytes())?;
     print_levels(layout, sink)?;

@@ -1,5 +1,5 @@
 //! Solutions as lines. Used by the commands of `search_run` that list solutions.
-ghost use Rattle.std.specs.Prelude.{◌≡◌, ◌+◌, ◌*◌, ◌≤◌, ◌++◌, ◌==◌, if◌then◌else◌, All, length, OnErr, codes};
+ghost use Rattle.std.specs.Prelude.{◌≡◌, ◌+◌, ◌*◌, ◌≤◌, ◌++◌, ◌==◌, if◌then◌else◌, All, length, OnOk, OnErr, codes};
 ghost use Rattle.source_io.specs.Told.{Rose};
 ghost use Rattle.source_io.specs.Written.{Writes};
 ghost use Rattle.query_model.specs.Rules.{IsVariable};
@@ -58,6 +58,7 @@ pub fn print_solutions<K: Sink>(query: &Query, points: &[Point], sink: &mut K) -
         (K.written sink.old) (K.written sink.new) }
     ensures cause { OnErr result (Rose (K.faults sink.old) (K.faults sink.new)) }
     ensures faults { K.faults sink.old ≤ K.faults sink.new }
+    ensures no_fault { OnOk result (K.faults sink.new ≡ K.faults sink.old) }
 {
     for point in points {
         let line = solution_line(query, point);

@@ -1,9 +1,10 @@
 -- How a run ends: its status, its output, the file that it makes, and its line on the error stream.
 -- Used by each command and by the top call.
-use Rattle.std.specs.Prelude.{◌≡◌, ◌≢◌, ℕ, List, Option, Some, None, MatchOption, ⊤, ◌⊎◌, ◌≤◌}
+use Rattle.std.specs.Prelude.{◌≡◌, ◌≢◌, ℕ, List, Option, Some, None, MatchOption, ⊤, ◌⊎◌, ◌≤◌, Bool, true, false}
 use Rattle.lists.specs.Appending.{appended, AppendsPrefix}
 use Rattle.source_io.specs.Files.{Files, with_file, HasPrefix}
-use Rattle.source_io.specs.Shelf.{ShelfState, ReadsFailed}
+use Rattle.source_io.specs.Told.{Rose}
+use Rattle.source_io.specs.Shelf.{ShelfState, ReadsFailed, SameReadFaults, SameWriteFaults, WritesFailed}
 use Rattle.report.specs.Status.{status_of, message_of, Says}
 use Rattle.report.specs.declared.ending.Failure.TheVariants.{NoMemory}
 use Rattle.report.specs.declared.ending.Ending.{Ending}
@@ -54,6 +55,12 @@ LeavesFile (Some (Some (name, bytes))) old new = (new ≡ old) ⊎ HasPrefix old
 LeavesFile (Some None) old new = new ≡ old
 LeavesFile None old new = new ≡ old
 
+-- a write failed: to the file and not to the output if the command makes a file, and otherwise to the output and to no
+-- file. The numbers are the counts of the output's faults
+abbrev pub WriteFails : Bool → ShelfState → ShelfState → ℕ → ℕ → Type 0
+WriteFails true old new old_faults new_faults = WritesFailed old new × (new_faults ≡ old_faults)
+WriteFails false old new old_faults new_faults = Rose old_faults new_faults × SameWriteFaults old new
+
 -- a command that means this ended so, on a shelf
 pub record RunsAs (m : Meaning) (ending : Ending) (old new : ShelfState) : Type 0 where
   -- the ending is the verdict, unless something failed
@@ -64,6 +71,9 @@ pub record RunsAs (m : Meaning) (ending : Ending) (old new : ShelfState) : Type 
   pub unmade : ending ≢ Done → status_of ending ≢ 6 → new.holds ≡ old.holds
   -- a read fault has its cause
   pub read_fault : status_of ending ≡ 5 → ReadsFailed old new
+  -- a fault that the status does not name did not come
+  pub no_read_fault : status_of ending ≢ 5 → SameReadFaults old new
+  pub no_write_fault : status_of ending ≢ 6 → SameWriteFaults old new
   -- it opened or created its names in order, all of them at `Done`, and handed everything back
   pub opened : AppendsPrefix old.opened m.openings new.opened
   pub all_opened : ending ≡ Done → new.opened ≡ appended old.opened m.openings

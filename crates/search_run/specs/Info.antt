@@ -1,7 +1,7 @@
 -- What it means to tell of an array file, which is to print its layout and the record of its cells, and what loading it
 -- answers.
 -- Used by the command `info`.
-use Rattle.std.specs.Prelude.{◌≡◌, ⊤, ℕ, List, [], ◌∷◌, take, filter_map, Option, Some, None, MatchOption, Result, Ok, Err, option_map}
+use Rattle.std.specs.Prelude.{◌≡◌, ⊤, ℕ, List, [], ◌∷◌, take, filter_map, Option, Some, None, MatchOption, Result, Ok, Err, option_map, false}
 use Rattle.std.specs.Option.{option_map_or}
 use Rattle.source_io.specs.Files.{bytes_at}
 use Rattle.cells.specs.Array.{Array}
@@ -39,6 +39,7 @@ describing array =
     record {
       refusal = λ files. array_refusal (bytes_at files array);
       output = λ files. info_output (bytes_at files array);
+      makes_file = false;
       file = λ files. None;
       openings = array ∷ [];
     }

@@ -1,6 +1,6 @@
 -- What a command means: why it is refused, what it prints, which file it makes, and which names it opens.
 -- Used by each command and by the top call. A name that begins with `told` is of files that are told.
-use Rattle.std.specs.Prelude.{ℕ, List, [], Option, Some, None, option_map}
+use Rattle.std.specs.Prelude.{ℕ, List, [], Option, Some, None, option_map, Bool, false}
 use Rattle.source_io.specs.Files.{Files}
 use Rattle.report.specs.declared.ending.Refusal.{Refusal}
 use Rattle.report.specs.declared.ending.Refusal.TheVariants.{Words}
@@ -13,6 +13,8 @@ pub record Meaning : Type 0 where
   pub refusal : Files → Option Refusal
   -- what it prints
   pub output : Files → List ℕ
+  -- whether it makes a file; if not, it writes to the output alone
+  pub makes_file : Bool
   -- the name and the bytes of the file that it makes, if it makes one
   pub file : Files → Option (List ℕ × List ℕ)
   -- which names it opens or creates, in order
@@ -24,6 +26,7 @@ refusing =
     record {
       refusal = λ files. Some Words;
       output = λ files. [];
+      makes_file = false;
       file = λ files. None;
       openings = [];
     }

@@ -1,6 +1,6 @@
 -- What it means to list the solutions of a query on an array, and what loading the two answers.
 -- Used by the commands that list solutions.
-use Rattle.std.specs.Prelude.{◌≡◌, ℕ, List, [], ◌∷◌, Option, Some, None, Result, Ok, Err, MatchOption, ⊤}
+use Rattle.std.specs.Prelude.{◌≡◌, ℕ, List, [], ◌∷◌, Option, Some, None, Result, Ok, Err, MatchOption, ⊤, false}
 use Rattle.std.specs.Option.{option_map_or}
 use Rattle.source_io.specs.Files.{bytes_at}
 use Rattle.cells.specs.Array.{Array}
@@ -45,6 +45,7 @@ listing array query =
     record {
       refusal = λ files. problem_refusal (bytes_at files array) (bytes_at files query);
       output = λ files. problem_output (bytes_at files array) (bytes_at files query);
+      makes_file = false;
       file = λ files. None;
       openings = array ∷ query ∷ [];
     }

@@ -1,6 +1,6 @@
 -- What stops a step of a command, and which stop each fault of a lower crate becomes.
 -- Used by every function that loads or makes a file.
-use Rattle.std.specs.Prelude.{◌≡◌, ◌≢◌, ◌⊎◌, ℕ}
+use Rattle.std.specs.Prelude.{◌≡◌, ◌≢◌, ◌⊎◌, ℕ, Result, MatchResult}
 use Rattle.array_file.specs.declared.header.HeaderFault.{HeaderFault}
 use Rattle.array_file.specs.declared.header.HeaderFault.TheVariants as header
 use Rattle.array_text.specs.declared.fault.TextFault.{TextFault}
@@ -41,6 +41,10 @@ IsReadFaultOrNoMemory s = (s ≡ Failed Read) ⊎ (s ≡ Failed NoMemory)
 -- a stop for a read fault has this cause
 abbrev pub IsCausedBy : Type 0 → Stop → Type 0
 IsCausedBy fact s = stop_status s ≡ 5 → fact
+
+-- unless it was stopped for a read fault, this is so
+abbrev pub UnlessReadFault : {T : Type 0} → Type 0 → Result T Stop → Type 0
+UnlessReadFault {T} fact result = MatchResult result (λ _. fact) (λ s. stop_status s ≢ 5 → fact)
 
 -- ---- the faults of lower crates
 

@@ -1,6 +1,6 @@
 -- What it means to make the array file of an array text, and what loading the text answers.
 -- Used by the command `pack`.
-use Rattle.std.specs.Prelude.{◌≡◌, ℕ, List, [], ◌∷◌, length, Option, Some, None, option_map, Result, Ok, Err, MatchOption, ⊤}
+use Rattle.std.specs.Prelude.{◌≡◌, ℕ, List, [], ◌∷◌, length, Option, Some, None, option_map, Result, Ok, Err, MatchOption, ⊤, true}
 use Rattle.source_io.specs.Files.{bytes_at}
 use Rattle.cells.specs.declared.cell.Cell.{Cell}
 use Rattle.layouts.specs.declared.numbers.LayoutNumbers.{LayoutNumbers}
@@ -34,6 +34,7 @@ packing text array =
     record {
       refusal = λ files. text_refusal (stated_array (bytes_at files text));
       output = λ files. [];
+      makes_file = true;
       file = λ files. packed_file array (bytes_at files text);
       openings = text ∷ array ∷ [];
     }

@@ -1,6 +1,6 @@
 -- What the words and the files determine: the verdict, the whole output, the file that is made, and the names that are opened.
 -- Used by the top call, for the words as the program has them. A name that begins with `told` is of files that are told.
-use Rattle.std.specs.Prelude.{ℕ, List, Option, String}
+use Rattle.std.specs.Prelude.{ℕ, List, Option, String, Bool}
 use Rattle.std.specs.Global.{Global}
 use Rattle.source_io.specs.Files.{Files}
 use Rattle.command_words.specs.Words.{bytes_of_words}
@@ -23,6 +23,10 @@ told_output held words = told_output_of held (asked_by words)
 -- the name and the bytes of the file that is made if nothing fails; `None` if none is made
 abbrev pub told_file : Option Files → List (String Global) → Option (Option (List ℕ × List ℕ))
 told_file held words = told_file_of held (asked_by words)
+
+-- whether a file is made
+abbrev pub makes_file : List (String Global) → Bool
+makes_file words = (asked_by words).makes_file
 
 -- which names are opened or created, in order
 abbrev pub openings : List (String Global) → List (List ℕ)

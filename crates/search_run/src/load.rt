@@ -3,11 +3,11 @@
 ghost use Rattle.std.specs.Prelude.{◌≡◌, ◌<◌, ◌^◌, List, ◌∷◌, [], ℕ, Option, Result, Err, OnOk, IfErr};
 ghost use Rattle.source_io.specs.Told.{Rose};
 ghost use Rattle.source_io.specs.Files.{file_of};
-ghost use Rattle.source_io.specs.Shelf.{ReadsFailed};
+ghost use Rattle.source_io.specs.Shelf.{ReadsFailed, SameReadFaults};
 ghost use Rattle.lists.specs.Appending.{appended};
 ghost use Rattle.report.specs.declared.ending.Failure.{Failure};
 ghost use Rattle.search_run.specs.Loads.{OnlyOpens};
-ghost use Rattle.search_run.specs.Stops.{IsOfReading, IsCausedBy};
+ghost use Rattle.search_run.specs.Stops.{IsOfReading, IsCausedBy, UnlessReadFault};
 ghost use Rattle.search_run.specs.declared.stop.Stop.{Stop};
 ghost use Rattle.search_run.specs.declared.stop.Stop.TheVariants.{Failed};
 
@@ -27,7 +27,8 @@ pub trait Load {
     fn load<S: ByteSource>(&self, alloc: Global, source: &mut S) -> Result<Self::Value, Stop>
         ensures value { loads self.now (S.file source.old).bytes result }
         ensures reads { IfErr result IsOfReading }
-        ensures cause { IfErr result (IsCausedBy (Rose (S.faults source.old) (S.faults source.new))) };
+        ensures cause { IfErr result (IsCausedBy (Rose (S.faults source.old) (S.faults source.new))) }
+        ensures no_fault { UnlessReadFault (S.faults source.new ≡ S.faults source.old) result };
 
     /// It may fail, whatever the bytes are.
     ghost may_fail: { (what : Self) (bytes : Option (List ℕ)) (failure : Failure) → loads what bytes (Err (Failed failure)) };
@@ -45,6 +46,7 @@ pub fn load_file<F: Shelf, L: Load>(
     ensures value { L.loads what.now (file_of (F.state shelf.old).holds name.now) result }
     ensures reads { IfErr result IsOfReading }
     ensures cause { IfErr result (IsCausedBy (ReadsFailed (F.state shelf.old) (F.state shelf.new))) }
+    ensures no_fault { UnlessReadFault (SameReadFaults (F.state shelf.old) (F.state shelf.new)) result }
     ensures opens { OnlyOpens (name.now ∷ []) (F.state shelf.old) (F.state shelf.new) }
     ensures all_opened { OnOk result ((F.state shelf.new).opened ≡ appended (F.state shelf.old).opened (name.now ∷ [])) }
 {

@@ -3,11 +3,11 @@
 ghost use Rattle.std.specs.Prelude.{◌≡◌, ◌<◌, ◌⊎◌, ◌^◌, ◌∷◌, [], OnOk, IfErr};
 ghost use Rattle.source_io.specs.Told.{Rose};
 ghost use Rattle.source_io.specs.Files.{file_of};
-ghost use Rattle.source_io.specs.Shelf.{ReadsFailed};
+ghost use Rattle.source_io.specs.Shelf.{ReadsFailed, SameReadFaults};
 ghost use Rattle.lists.specs.Appending.{appended};
 ghost use Rattle.search_run.specs.Loads.{OnlyOpens};
 ghost use Rattle.search_run.specs.Problem.{LoadsProblem};
-ghost use Rattle.search_run.specs.Stops.{IsOfReading, IsCausedBy};
+ghost use Rattle.search_run.specs.Stops.{IsOfReading, IsCausedBy, UnlessReadFault};
 
 use crate::Problem;
 use crate::load::load_file;
@@ -32,6 +32,9 @@ fn problem_from<F: Shelf>(
     ensures cause { IfErr result (IsCausedBy
         (Rose (F.Source.faults array.old) (F.Source.faults array.new)
         ⊎ ReadsFailed (F.state shelf.old) (F.state shelf.new))) }
+    ensures no_fault { UnlessReadFault
+        ((F.Source.faults array.new ≡ F.Source.faults array.old) × SameReadFaults (F.state shelf.old) (F.state shelf.new))
+        result }
     ensures opens { OnlyOpens (query.now ∷ []) (F.state shelf.old) (F.state shelf.new) }
     ensures all_opened { OnOk result ((F.state shelf.new).opened ≡ appended (F.state shelf.old).opened (query.now ∷ [])) }
 {
@@ -60,6 +63,7 @@ pub fn load_problem<F: Shelf>(
     ensures value { LoadsProblem (file_of (F.state shelf.old).holds array.now) (file_of (F.state shelf.old).holds query.now) result }
     ensures reads { IfErr result IsOfReading }
     ensures cause { IfErr result (IsCausedBy (ReadsFailed (F.state shelf.old) (F.state shelf.new))) }
+    ensures no_fault { UnlessReadFault (SameReadFaults (F.state shelf.old) (F.state shelf.new)) result }
     ensures opens { OnlyOpens (array.now ∷ query.now ∷ []) (F.state shelf.old) (F.state shelf.new) }
     ensures all_opened { OnOk result
         ((F.state shelf.new).opened ≡ appended (F.state shelf.old).opened (array.now ∷ query.now ∷ [])) }

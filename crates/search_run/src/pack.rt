@@ -2,7 +2,7 @@
 ghost use Rattle.std.specs.Prelude.{◌≡◌, ◌≢◌, ◌<◌, ◌≤◌, ◌^◌, None, [], ◌∷◌, length};
 ghost use Rattle.source_io.specs.Told.{Rose};
 ghost use Rattle.source_io.specs.Files.{with_file, HasPrefix};
-ghost use Rattle.source_io.specs.Shelf.{TakesNothingBack, WritesFailed};
+ghost use Rattle.source_io.specs.Shelf.{TakesNothingBack, WritesFailed, SameWriteFaults};
 ghost use Rattle.lists.specs.Appending.{appended, AppendsPrefix};
 ghost use Rattle.lists.specs.Numbers.{product};
 ghost use Rattle.array_file.specs.Written.{array_bytes};
@@ -53,7 +53,9 @@ fn make_array<F: Shelf>(name: &str, layout: &Layout, cells: &[Cell], shelf: &mut
         HasPrefix (F.state shelf.old).holds name.now (array_bytes layout.now cells.now) (F.state shelf.new).holds }
     ensures nothing { result ≢ Ending.Done → status_of result ≢ 6 → (F.state shelf.new).holds ≡ (F.state shelf.old).holds }
     ensures read_fault { status_of result ≡ 5 → Rose (F.state shelf.old).faults (F.state shelf.new).faults }
+    ensures no_read_fault { status_of result ≢ 5 → (F.state shelf.new).faults ≡ (F.state shelf.old).faults }
     ensures write_fault { status_of result ≡ 6 → WritesFailed (F.state shelf.old) (F.state shelf.new) }
+    ensures no_write_fault { status_of result ≢ 6 → SameWriteFaults (F.state shelf.old) (F.state shelf.new) }
     ensures faults { (F.state shelf.old).faults ≤ (F.state shelf.new).faults }
     ensures all_opened { result ≡ Ending.Done →
         (F.state shelf.new).opened ≡ appended (F.state shelf.old).opened (name.now ∷ []) }

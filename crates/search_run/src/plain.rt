@@ -1,6 +1,7 @@
 //! The commands `solo` and `verify`: print all solutions, found by plain enumeration.
 ghost use Rattle.std.specs.Prelude.{◌≡◌, ◌<◌, ◌^◌, ◌≢◌};
 ghost use Rattle.source_io.specs.Told.{Rose};
+ghost use Rattle.source_io.specs.Shelf.{SameWriteFaults};
 ghost use Rattle.report.specs.Status.{status_of};
 ghost use Rattle.search_run.specs.Meaning.{told_output_of};
 ghost use Rattle.search_run.specs.Problem.{listing};
@@ -25,6 +26,8 @@ pub fn list_solutions<F: Shelf, O: Sink>(
     ensures output { Prints result (told_output_of (F.state shelf.old).holds (listing array.now query.now))
         (O.written out.old) (O.written out.new) }
     ensures write_fault { status_of result ≡ 6 → Rose (O.faults out.old) (O.faults out.new) }
+    ensures no_write_fault { status_of result ≢ 6 → O.faults out.new ≡ O.faults out.old }
+    ensures no_file_fault { SameWriteFaults (F.state shelf.old) (F.state shelf.new) }
     ensures not_usage { status_of result ≢ 2 }
 {
     let problem = match load_problem(alloc, array, query, shelf) {

@@ -3,7 +3,7 @@
 ghost use Rattle.std.specs.Prelude.{◌≡◌, ◌≤◌, IfOk, IfErr};
 ghost use Rattle.source_io.specs.Told.{Rose};
 ghost use Rattle.search_run.specs.Problem.{IsTold};
-ghost use Rattle.search_run.specs.Stops.{IsReadFaultOrNoMemory, IsCausedBy};
+ghost use Rattle.search_run.specs.Stops.{IsReadFaultOrNoMemory, IsCausedBy, UnlessReadFault};
 
 use crate::stop::Stop;
 use report::Failure;
@@ -17,6 +17,7 @@ pub fn read_all<S: ByteSource>(alloc: Global, source: &mut S) -> Result<Vec<u8>,
     ensures kinds { IfErr result IsReadFaultOrNoMemory }
     ensures cause { IfErr result (IsCausedBy (Rose (S.faults source.old) (S.faults source.new))) }
     ensures faults { S.faults source.old ≤ S.faults source.new }
+    ensures no_fault { UnlessReadFault (S.faults source.new ≡ S.faults source.old) result }
 {
     let size = source.size();
     let Ok(mut bytes) = vec![in alloc; 0; size as usize] else {

@@ -1,18 +1,19 @@
 //! The top call, which the program makes.
 ghost use Rattle.std.specs.Prelude.{◌≡◌, ◌≢◌, ◌<◌, ◌≤◌, ◌^◌, ◌⊎◌, None, false};
 ghost use Rattle.source_io.specs.Told.{Rose};
-ghost use Rattle.source_io.specs.Shelf.{ReadsFailed, WritesFailed};
+ghost use Rattle.source_io.specs.Shelf.{ReadsFailed, WritesFailed, SameReadFaults, SameWriteFaults};
 ghost use Rattle.lists.specs.Appending.{appended, AppendsPrefix};
 ghost use Rattle.command_words.specs.Words.{names_command, bytes_of_words};
 ghost use Rattle.command_words.specs.Commands.{command_of};
 ghost use Rattle.report.specs.Status.{status_of};
 ghost use Rattle.search_run.specs.Meaning.{told_output_of};
 ghost use Rattle.search_run.specs.Meanings.{meaning, meaning_in, done_for};
-ghost use Rattle.search_run.specs.Verdict.{asked_by, told_verdict, told_output, told_file, openings};
+ghost use Rattle.search_run.specs.Verdict.{asked_by, told_verdict, told_output, makes_file, told_file, openings};
 ghost use Rattle.search_run.specs.Ends.{
   RunsAs,
   MakesFile,
   LeavesFile,
+  WriteFails,
   Prints,
   PrintsWhole,
   PrintsPrefix,
@@ -43,7 +44,8 @@ fn run_command<F: Shelf, O: Sink>(
         (told_output_of (F.state shelf.old).holds (done_for (meaning (command_of command.entry))))
         (O.written out.old) (O.written out.new) }
     ensures write_fault { status_of result ≡ 6 →
-        Rose (O.faults out.old) (O.faults out.new) ⊎ WritesFailed (F.state shelf.old) (F.state shelf.new) }
+        WriteFails (done_for (meaning (command_of command.entry))).makes_file (F.state shelf.old) (F.state shelf.new) (O.faults out.old) (O.faults out.new) }
+    ensures no_write_fault { status_of result ≢ 6 → O.faults out.new ≡ O.faults out.old }
     ensures usage { status_of result ≡ 2 → meaning (command_of command.entry) ≡ None }
     ensures unread { meaning (command_of command.entry) ≡ None → status_of result ≡ 2 }
 {
@@ -67,7 +69,8 @@ fn run<F: Shelf, O: Sink>(alloc: Global, words: &[String], shelf: &mut F, out: &
         (told_output_of (F.state shelf.old).holds (asked_by words.now))
         (O.written out.old) (O.written out.new) }
     ensures write_fault { status_of result ≡ 6 →
-        Rose (O.faults out.old) (O.faults out.new) ⊎ WritesFailed (F.state shelf.old) (F.state shelf.new) }
+        WriteFails (makes_file words.now) (F.state shelf.old) (F.state shelf.new) (O.faults out.old) (O.faults out.new) }
+    ensures no_write_fault { status_of result ≢ 6 → O.faults out.new ≡ O.faults out.old }
     ensures usage { status_of result ≡ 2 → meaning_in (bytes_of_words words.now) ≡ None }
     ensures unread { meaning_in (bytes_of_words words.now) ≡ None → (status_of result ≡ 2) ⊎ (status_of result ≡ 7) }
     ensures unnamed { names_command (bytes_of_words words.now) ≡ false → status_of result ≡ 2 }
@@ -119,10 +122,14 @@ pub fn run_tool<F: Shelf, O: Sink, E: Sink>(
         (Rose (E.faults err.old) (E.faults err.new)) (E.written err.old) (E.written err.new) }
     ensures quiet { result ≡ 0 → E.written err.new ≡ E.written err.old }
 
-    // A fault has its cause. If no count rose, the status is the verdict's, or 7.
+    // A fault has its cause, and a fault that the status does not name did not come. If no count rose, the status is
+    // the verdict's, or 7.
     ensures read_fault { result ≡ 5 → ReadsFailed (F.state shelf.old) (F.state shelf.new) }
     ensures write_fault { result ≡ 6 →
-        Rose (O.faults out.old) (O.faults out.new) ⊎ WritesFailed (F.state shelf.old) (F.state shelf.new) }
+        WriteFails (makes_file words.now) (F.state shelf.old) (F.state shelf.new) (O.faults out.old) (O.faults out.new) }
+    ensures no_read_fault { result ≢ 5 → SameReadFaults (F.state shelf.old) (F.state shelf.new) }
+    ensures no_write_fault { result ≢ 6 →
+        (O.faults out.new ≡ O.faults out.old) × SameWriteFaults (F.state shelf.old) (F.state shelf.new) }
     ensures complete { ¬ ReadsFailed (F.state shelf.old) (F.state shelf.new)
         → ¬ WritesFailed (F.state shelf.old) (F.state shelf.new)
         → ¬ Rose (O.faults out.old) (O.faults out.new)

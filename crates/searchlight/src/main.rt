@@ -4,11 +4,21 @@
 
 mod words;
 
+ghost use Rattle.std.specs.Prelude.{◌≡◌};
+ghost use Rattle.std.specs.Process.{exit_status};
+
 use crate::words::{after_name, all_words};
 use report::report_ending;
 use search_run::run_tool;
 use std::process::ExitCode;
 use system_files::{FileShelf, WriterSink};
+
+/// The exit code of a process that ends with this status.
+fn exit_code(status: u8) -> ExitCode
+    ensures { exit_status result ≡ status }
+{
+    ExitCode::from(status)
+}
 
 fn main(rt: HostRuntime) -> ExitCode {
     let mut err = WriterSink::new(rt.stderr());
@@ -21,5 +31,5 @@ fn main(rt: HostRuntime) -> ExitCode {
         }
         Err(ending) => report_ending(ending, &mut err),
     };
-    ExitCode::from(status)
+    exit_code(status)
 }

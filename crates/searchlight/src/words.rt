@@ -1,5 +1,5 @@
 //! The words of the command line.
-ghost use Rattle.std.specs.Prelude.{◌≡◌, drop};
+ghost use Rattle.std.specs.Prelude.{◌≡◌, ◌⊎◌, drop, IfErr};
 
 use report::{Ending, Failure, Refusal};
 use std::env;
@@ -7,8 +7,11 @@ use std::io::ErrorKind;
 use std::rt::Env;
 
 /// The program's name and the words after it, in order. If one of them is not UTF-8, no command reads it: the words are
-/// refused. It fails with `NoMemory` if there is no memory for them.
-pub fn all_words<R: Env + AllocGlobal>(rt: &R) -> Result<Vec<String>, Ending> {
+/// refused. It fails with `NoMemory` if there is no memory for them. They are the words that std's `args` gives, of
+/// which no clause speaks.
+pub fn all_words<R: Env + AllocGlobal>(rt: &R) -> Result<Vec<String>, Ending>
+    ensures { IfErr result (λ ending. (ending ≡ Ending.Refused Refusal.Words) ⊎ (ending ≡ Ending.Failed Failure.NoMemory)) }
+{
     match env::args(rt) {
         Ok(words) => words
             .collect(rt.alloc())

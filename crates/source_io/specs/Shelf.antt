@@ -41,7 +41,7 @@ pub record FinishesNothing (old new : ShelfState) : Type 0 where
   pub holds : new.holds ≡ old.holds
   pub sink_faults : new.sink_faults ≡ old.sink_faults
 
--- ---- what failed
+-- ---- what failed, and what did not
 
 -- an opening, a creating or a read failed: one of the two counts rose
 abbrev pub ReadsFailed : ShelfState → ShelfState → Type 0
@@ -50,3 +50,11 @@ ReadsFailed old new = Rose old.faults new.faults ⊎ Rose old.source_faults new.
 -- a write to a file failed: the count of those rose
 abbrev pub WritesFailed : ShelfState → ShelfState → Type 0
 WritesFailed old new = Rose old.sink_faults new.sink_faults
+
+-- no opening, no creating and no read failed: the two counts are the same
+abbrev pub SameReadFaults : ShelfState → ShelfState → Type 0
+SameReadFaults old new = (new.faults ≡ old.faults) × (new.source_faults ≡ old.source_faults)
+
+-- no write to a file failed: the count of those is the same
+abbrev pub SameWriteFaults : ShelfState → ShelfState → Type 0
+SameWriteFaults old new = new.sink_faults ≡ old.sink_faults

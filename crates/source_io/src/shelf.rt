@@ -37,6 +37,8 @@ pub trait Shelf {
         ensures no_memory { IsErrOf result OpenFault.NoMemory → (state self.new).opened ≡ (state self.old).opened }
         ensures cause { IsErrOf result OpenFault.Failed → Rose (state self.old).faults (state self.new).faults }
         ensures faults { (state self.old).faults ≤ (state self.new).faults }
+        ensures no_fault { OnOk result ((state self.new).faults ≡ (state self.old).faults) }
+        ensures same_faults { IsErrOf result OpenFault.NoMemory → (state self.new).faults ≡ (state self.old).faults }
         ensures takes_nothing_back { TakesNothingBack (state self.old) (state self.new) }
         ensures finishes_nothing { FinishesNothing (state self.old) (state self.new) }
         ensures same_making { (state self.new).making ≡ (state self.old).making };
@@ -69,6 +71,8 @@ pub trait Shelf {
         ensures no_memory { IsErrOf result OpenFault.NoMemory → (state self.new).opened ≡ (state self.old).opened }
         ensures cause { IsErrOf result OpenFault.Failed → Rose (state self.old).faults (state self.new).faults }
         ensures faults { (state self.old).faults ≤ (state self.new).faults }
+        ensures no_fault { OnOk result ((state self.new).faults ≡ (state self.old).faults) }
+        ensures same_faults { IsErrOf result OpenFault.NoMemory → (state self.new).faults ≡ (state self.old).faults }
         ensures takes_nothing_back { TakesNothingBack (state self.old) (state self.new) }
         ensures finishes_nothing { FinishesNothing (state self.old) (state self.new) }
         ensures same_lent { (state self.new).lent ≡ (state self.old).lent };

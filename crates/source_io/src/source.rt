@@ -23,7 +23,7 @@ pub trait ByteSource {
         ensures told { SizeIs (file self.now).bytes result };
 
     /// Reads bytes from an offset on to the beginning of `into`, at least one, and answers how many.
-    /// `Failed` if the read failed. The source counts it, and `into` is unchanged.
+    /// `Failed` if the read failed. The source counts it, and `into` is unchanged. No other fault is counted.
     fn read_at(&mut self, offset: u64, into: &mut [u8]) -> Result<usize, Failed>
         requires some { 0 < length into.old }
         requires within { offset + length into.old ≤ (file self.old).len }
@@ -32,6 +32,7 @@ pub trait ByteSource {
         ensures unchanged { OnErr result (into.new ≡ into.old) }
         ensures cause { OnErr result (Rose (faults self.old) (faults self.new)) }
         ensures faults { faults self.old ≤ faults self.new }
+        ensures no_fault { OnOk result (faults self.new ≡ faults self.old) }
 
         // A read that did not fail is recorded, and one that failed may be.
         ensures asked { OnOk result (AsksOne (asked self.old) (asked self.new) (offset, length into.old)) }
@@ -42,12 +43,13 @@ pub trait ByteSource {
 }
 
 /// Fills the whole of `into` with the bytes from an offset on, with as many reads as are needed. If `into` is empty,
-/// there is no read. `Failed` if one of them failed.
+/// there is no read. `Failed` if one of them failed. A read that failed is not tried again.
 pub fn read_whole<S: ByteSource>(src: &mut S, offset: u64, into: &mut [u8]) -> Result<(), Failed>
     requires { offset + length into.old ≤ (S.file src.old).len }
     ensures bytes { OnOk result (Holds (S.file src.old).bytes offset (length into.old) into.new) }
     ensures cause { OnErr result (Rose (S.faults src.old) (S.faults src.new)) }
     ensures faults { S.faults src.old ≤ S.faults src.new }
+    ensures no_fault { OnOk result (S.faults src.new ≡ S.faults src.old) }
     ensures asked { Asks (S.asked src.old) (S.asked src.new) offset (offset + length into.old) }
     ensures same_file { S.file src.new ≡ S.file src.old }
 {

@@ -1,6 +1,6 @@
 //! Standard output, standard error and created files as sinks. The program prints to the streams, and a shelf of files
 //! gives a sink for each file that it creates.
-ghost use Rattle.std.specs.Prelude.{◌≡◌, ◌<◌, ◌≤◌, length, take, None, IfOk, OnErr};
+ghost use Rattle.std.specs.Prelude.{◌≡◌, ◌<◌, ◌≤◌, length, take, None, IfOk, OnOk, OnErr};
 ghost use Rattle.std.specs.Io.KnownBytes.{Keeps, Appends};
 ghost use Rattle.source_io.specs.Told.{Rose};
 
@@ -52,6 +52,7 @@ impl<W: Write> Sink for WriterSink<W> {
         ensures count { IfOk result (λ n. (0 < n) × (n ≤ length piece.now)) }
         ensures cause { OnErr result (Rose self.old.faults self.new.faults) }
         ensures faults { self.old.faults ≤ self.new.faults }
+        ensures no_fault { OnOk result (self.new.faults ≡ self.old.faults) }
 
         // If the contents of the writer are known, it took exactly the bytes that the answer counts.
         ensures taken { IfOk result (λ n. Appends (W.contents self.old.writer) (W.contents self.new.writer) (take n piece.now)) }

@@ -1,4 +1,4 @@
-use Rattle.std.proofs.Common.{rules, ◌+◌, ◌-◌, sym, ap, ◌∙◌, arith}
+use Rattle.std.proofs.Common.{rules, ◌+◌, ◌-◌, sym, ap, ◌∙◌, arith, refl}
 use Rattle.std.proofs.lemmas.Result.{MatchResult-from_err}
 use Rattle.lists.specs.Appending.{appended}
 use Rattle.lists.proofs.Appending.{appended-nil}
@@ -8,7 +8,7 @@ use Rattle.array_file.proofs.writing.write_cells.Goals as goal
 pub loop-done-init : goal.loop-done-init
 loop-done-init g c =
     let told = g.K.Sink.written c.args.sink.now in
-    record { within = omega arith; written = sym (ap (appended told) bytes_of_cells-nil ∙ appended-nil told); faults = omega arith }
+    record { within = omega arith; written = sym (ap (appended told) bytes_of_cells-nil ∙ appended-nil told); faults = refl }
 
 pub returns-in_err-write_piece-clause-written : goal.returns-in_err-write_piece-clause-written
 returns-in_err-write_piece-clause-written g c =
@@ -27,5 +27,5 @@ loop-done-preserved g c =
       within = search rules;
       written = cells_more (written c.args.sink.now) (written c.loop-done.sink) (written c.write_piece.new.sink) c.args.cells.now done n (done + n - done) (omega arith)
           c.loop-done.invariant.written c.in_ok-write_piece.ensures.written;
-      faults = omega (arith, c.loop-done.invariant.faults, c.write_piece.ensures.faults);
+      faults = c.in_ok-write_piece.ensures.no_fault ∙ c.loop-done.invariant.faults;
     }

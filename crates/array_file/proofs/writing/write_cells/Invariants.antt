@@ -8,7 +8,7 @@ invariant-loop-done g l =
     record {
       within : l.done ≤ length l.cells;
       written : g.K.Sink.written l.sink ≡ appended (g.K.Sink.written l.fn.sink) (bytes_of_cells (take l.done l.cells));
-      faults : g.K.Sink.faults l.fn.sink ≤ g.K.Sink.faults l.sink;
+      faults : g.K.Sink.faults l.sink ≡ g.K.Sink.faults l.fn.sink;
     }
 
 abbrev pub decreases-loop-done : goal.decreases-loop-done

@@ -1,4 +1,4 @@
-use Rattle.std.proofs.Common.{rules, ◌∙◌, sym, ap, arith}
+use Rattle.std.proofs.Common.{rules, ◌∙◌, sym, ap, arith, refl}
 use Rattle.std.proofs.lemmas.Result.{MatchResult-from_err}
 use Rattle.lists.specs.Appending.{appended}
 use Rattle.lists.proofs.Appending.{appended-nil}
@@ -12,7 +12,7 @@ loop-n-init g c =
     record {
       long = search rules;
       written = sym (ap (appended told) (bytes_of_chunks-nil c.args.layout.now c.args.cells.now) ∙ appended-nil told);
-      faults = omega arith;
+      faults = refl;
     }
 
 pub returns-in_err-write_cells-clause-written : goal.returns-in_err-write_cells-clause-written
@@ -29,7 +29,7 @@ loop-n-preserved g c =
       long = c.take_chunk.ensures.long ∙ c.loop-n.invariant.long;
       written = chunks_more (written c.args.sink.now) (written c.loop-n.sink) (written c.write_cells.new.sink) c.args.layout.now c.args.cells.now c.take_chunk.new.chunk c.loop-n.n
           c.take_chunk.ensures.taken c.loop-n.invariant.written c.in_ok-write_cells.ensures.written;
-      faults = omega (arith, c.loop-n.invariant.faults, c.write_cells.ensures.faults);
+      faults = c.in_ok-write_cells.ensures.no_fault ∙ c.loop-n.invariant.faults;
     }
 
 pub returns-clause-written : goal.returns-clause-written

@@ -1,4 +1,4 @@
-use Rattle.std.proofs.Common.{rules, ◌≡◌, ◌+◌, ◌<◌, subst, arith}
+use Rattle.std.proofs.Common.{rules, ◌≡◌, ◌+◌, ◌<◌, ◌∙◌, subst, arith, refl}
 use Rattle.std.proofs.lemmas.Grind.{common_steps}
 use Rattle.source_io.specs.Source.{StoredFile}
 use Rattle.layouts.specs.Chunks.{chunk_count}
@@ -9,7 +9,7 @@ use Rattle.chunk_store.proofs.Placed.{none_placed, all_placed}
 use Rattle.chunk_store.proofs.array.add_chunks.Goals as goal
 
 pub loop-n-init : goal.loop-n-init
-loop-n-init g c = record { within = omega arith; cells = none_placed _ _ _ c.requires.cells; frame = c.requires.frame; faults = omega arith; asked = asks_none _ _ _; file = cc }
+loop-n-init g c = record { within = omega arith; cells = none_placed _ _ _ c.requires.cells; frame = c.requires.frame; faults = refl; asked = asks_none _ _ _; file = cc }
 
 pub returns-in_err-add_chunk-clause-asked : goal.returns-in_err-add_chunk-clause-asked
 returns-in_err-add_chunk-clause-asked g c =
@@ -26,7 +26,7 @@ loop-n-preserved g c =
       within = search (rules, common_steps);
       cells = subst (λ (file : StoredFile). HoldsFirstChunks file.bytes layout (n + 1) c.add_chunk.new.cells) before.file c.in_ok-add_chunk.ensures.cells;
       frame = one.frame;
-      faults = omega (arith, before.faults, one.faults);
+      faults = c.in_ok-add_chunk.ensures.no_fault ∙ before.faults;
       asked = one_more_asked layout n _ _ _ before.asked one.asked;
       file = cc;
     }

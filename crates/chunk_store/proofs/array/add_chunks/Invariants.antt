@@ -12,7 +12,7 @@ invariant-loop-n g l =
       within : l.n ≤ l.n-end;
       cells : HoldsFirstChunks (s.file l.fn.src).bytes l.layout l.n l.cells;
       frame : length l.frame.cells ≡ chunk_cells l.layout;
-      faults : s.faults l.fn.src ≤ s.faults l.src;
+      faults : s.faults l.src ≡ s.faults l.fn.src;
       asked : AsksPieces (s.asked l.fn.src) (s.asked l.src) 96 (chunk_start l.layout l.n);
       file : s.file l.src ≡ s.file l.fn.src;
     }

@@ -1,4 +1,4 @@
-use Rattle.std.proofs.Common.{◌≡◌, ◌+◌, ◌*◌, ◌-◌, length, take, drop, length-take, length-drop, arith, rules, subst}
+use Rattle.std.proofs.Common.{◌≡◌, ◌+◌, ◌*◌, ◌-◌, ◌∙◌, length, take, drop, length-take, length-drop, arith, rules, subst, refl}
 use Rattle.std.proofs.lemmas.Grind.{common_steps}
 use Rattle.source_io.specs.Source.{StoredFile}
 use Rattle.cells.specs.declared.cell.Cell.{Cell}
@@ -13,7 +13,7 @@ loop-done-init g c =
     record {
       within = omega arith;
       held = holds_none _ _;
-      faults = omega arith;
+      faults = refl;
       asked = asks_none _ _ _;
       file = cc;
     }
@@ -38,7 +38,7 @@ loop-done-preserved g c =
     record {
       within = search (rules, common_steps);
       held = holds_more _ at n m _ cells c.read_piece.new.cells before.within long before.held piece;
-      faults = omega (arith, before.faults, c.read_piece.ensures.faults);
+      faults = c.in_ok-read_piece.ensures.no_fault ∙ before.faults;
       asked = subst (AsksPieces (s.asked c.args.src.now) (s.asked c.read_piece.new.src) at) end asked;
       file = cc;
     }

@@ -9,7 +9,7 @@ invariant-loop-done g l =
     record {
       within : l.done ≤ length l.cells;
       held : HoldsFrom (s.file l.fn.src).bytes l.at (take l.done l.cells);
-      faults : s.faults l.fn.src ≤ s.faults l.src;
+      faults : s.faults l.src ≡ s.faults l.fn.src;
       asked : AsksPieces (s.asked l.fn.src) (s.asked l.src) l.at (l.at + 4 * l.done);
       file : s.file l.src ≡ s.file l.fn.src;
     }

@@ -1,4 +1,4 @@
-use Rattle.std.proofs.Common.{rules, ◌≡◌, ◌+◌, ◌<◌, sym, subst, arith}
+use Rattle.std.proofs.Common.{rules, ◌≡◌, ◌+◌, ◌<◌, ◌∙◌, sym, subst, arith, refl}
 use Rattle.std.proofs.lemmas.Grind.{common_steps}
 use Rattle.source_io.specs.Source.{StoredFile}
 use Rattle.layouts.specs.Chunks.{chunk_count}
@@ -9,7 +9,7 @@ use Rattle.chunk_store.proofs.Summed.{none_summed, all_summed, count_summed, arr
 use Rattle.chunk_store.proofs.summary.add_records.Goals as goal
 
 pub loop-n-init : goal.loop-n-init
-loop-n-init g c = record { within = omega arith; all = none_summed _ _; frame = c.requires.frame; faults = omega arith; asked = asks_none _ _ _; file = cc }
+loop-n-init g c = record { within = omega arith; all = none_summed _ _; frame = c.requires.frame; faults = refl; asked = asks_none _ _ _; file = cc }
 
 pub add_record-requires-clause-all : goal.add_record-requires-clause-all
 add_record-requires-clause-all g c =
@@ -30,7 +30,7 @@ loop-n-preserved g c =
       within = search (rules, common_steps);
       all = subst (λ (file : StoredFile). SumsFirst file.bytes layout (n + 1) c.in_ok-all.all) before.file c.in_ok-all.ensures.all;
       frame = one.frame;
-      faults = omega (arith, before.faults, one.faults);
+      faults = c.in_ok-all.ensures.no_fault ∙ before.faults;
       asked = one_more_asked layout n _ _ _ before.asked one.asked;
       file = cc;
     }

@@ -1,4 +1,4 @@
-use Rattle.std.proofs.Common.{rules, subst, ap, ◌∙◌, arith}
+use Rattle.std.proofs.Common.{rules, subst, ap, ◌∙◌}
 use Rattle.std.proofs.lemmas.Grind.{common_steps}
 use Rattle.std.proofs.lemmas.Result.{MatchResult-from_err}
 use Rattle.lists.specs.Appending.{appended, AppendsPrefix}
@@ -14,7 +14,7 @@ loop-level-preserved g c =
       within = search (rules, common_steps);
       written = pieces_next (level_line c.args.layout.now) (written c.args.sink.now) (written c.loop-level.sink) (written c.write_whole.new.sink) c.loop-level.level c.loop-level.invariant.written
           (c.in_ok-write_whole.ensures.written ∙ ap (appended (written c.loop-level.sink)) line);
-      faults = omega (arith, c.loop-level.invariant.faults, c.write_whole.ensures.faults);
+      faults = c.in_ok-write_whole.ensures.no_fault ∙ c.loop-level.invariant.faults;
     }
 
 pub returns-in_err-write_whole-clause-written : goal.returns-in_err-write_whole-clause-written

@@ -9,5 +9,5 @@ invariant-loop-level g l =
     record {
       within : l.level ≤ l.level-end;
       written : g.K.Sink.written l.sink ≡ appended (g.K.Sink.written l.fn.sink) (flat_map (level_line l.layout) (range_with_len 0 l.level));
-      faults : g.K.Sink.faults l.fn.sink ≤ g.K.Sink.faults l.sink;
+      faults : g.K.Sink.faults l.sink ≡ g.K.Sink.faults l.fn.sink;
     }

@@ -1,4 +1,4 @@
-use Rattle.std.proofs.Common.{subst, ap, ◌∙◌, arith}
+use Rattle.std.proofs.Common.{subst, ap, ◌∙◌}
 use Rattle.std.proofs.lemmas.Result.{MatchResult-from_err}
 use Rattle.lists.specs.Appending.{appended, AppendsPrefix}
 use Rattle.lists.proofs.Appending.{pieces_more, pieces_prefix}
@@ -13,7 +13,7 @@ loop-point-preserved g c =
       written = pieces_more (line_of c.args.query.now) c.args.points.now c.loop-point.point-index c.point-item.result c.loop-point-test.true c.point-item.is
           (written c.args.sink.now) (written c.loop-point.sink) (written c.write_whole.new.sink) c.loop-point.invariant.written
           (c.in_ok-write_whole.ensures.written ∙ ap (appended (written c.loop-point.sink)) line);
-      faults = omega (arith, c.loop-point.invariant.faults, c.write_whole.ensures.faults);
+      faults = c.in_ok-write_whole.ensures.no_fault ∙ c.loop-point.invariant.faults;
     }
 
 pub returns-in_err-write_whole-clause-written : goal.returns-in_err-write_whole-clause-written

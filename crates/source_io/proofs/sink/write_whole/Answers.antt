@@ -1,4 +1,4 @@
-use Rattle.std.proofs.Common.{arith, ◌-◌, length, length-drop, length-take, ℕ}
+use Rattle.std.proofs.Common.{arith, ◌-◌, ◌∙◌, length, length-drop, length-take, ℕ}
 use Rattle.std.proofs.lemmas.Result.{MatchResult-from_err}
 use Rattle.lists.proofs.Appending.{appended_more, prefix_of_take}
 use Rattle.source_io.proofs.sink.write_whole.Goals as goal
@@ -14,7 +14,7 @@ loop-done-preserved g c =
       within = omega (arith, h.count, length-drop {A = ℕ}, length-take {A = ℕ});
       written = appended_more (written c.args.sink.now) (written c.loop-done.sink) (written c.write.new.self) piece done c.in_ok-done.field-0 long
           c.loop-done.invariant.written (omega (arith, h.count, length-take {A = ℕ}, length-drop {A = ℕ})) h.written;
-      faults = omega (arith, c.write.ensures.faults, c.loop-done.invariant.faults);
+      faults = h.no_fault ∙ c.loop-done.invariant.faults;
     }
 
 pub returns-in_err-done-clause-written : goal.returns-in_err-done-clause-written

@@ -1,4 +1,4 @@
-use Rattle.std.proofs.Common.{⊎_elim, rules, arith, length-take, length-drop, ◌+◌, ◌-◌, subst, sym, length, ℕ}
+use Rattle.std.proofs.Common.{⊎_elim, rules, arith, length-take, length-drop, ◌+◌, ◌-◌, ◌∙◌, subst, sym, length, ℕ}
 use Rattle.std.proofs.lemmas.Grind.{common_steps}
 use Rattle.source_io.specs.Told.{Fills}
 use Rattle.source_io.specs.Source.{StoredFile}
@@ -20,7 +20,7 @@ loop-done-preserved g c =
     record {
       within = search (rules, common_steps);
       held = holds_more _ offset n m k into c.read_at.new.into before.within (omega (arith, c.read_at.auto.into, length-take {A = ℕ}, length-drop {A = ℕ})) before.held filled;
-      faults = omega arith;
+      faults = h.no_fault ∙ before.faults;
       asked = asks_more _ _ _ offset _ _ end _ _ before.asked h.asked (omega arith) (omega arith) (omega arith) (omega (arith, length-take {A = ℕ}, length-drop {A = ℕ})) (omega (arith, length-take {A = ℕ}, length-drop {A = ℕ}));
       file = cc;
     }

@@ -9,7 +9,7 @@ invariant-loop-done g l =
     record {
       within : l.done ≤ length l.into;
       held : Holds (s.file l.fn.src).bytes l.offset l.done (take l.done l.into);
-      faults : s.faults l.fn.src ≤ s.faults l.src;
+      faults : s.faults l.src ≡ s.faults l.fn.src;
       asked : AsksBelow (s.asked l.fn.src) (s.asked l.src) l.offset (l.offset + l.done) (l.offset + length l.fn.into);
       file : s.file l.src ≡ s.file l.fn.src;
     }
