@@ -1,5 +1,5 @@
 -- What reading a header answers.
--- Used in this crate alone.
+-- Used in this crate and by `search_run`.
 use Rattle.std.specs.Prelude.{◌≡◌, ℕ, List, take, Option, Some, None, Result, Ok, Err}
 use Rattle.layouts.specs.declared.layout.Layout.{Layout}
 use Rattle.array_file.specs.Header.{stored_layout}

@@ -1,5 +1,5 @@
 -- The reads that a load makes: offsets and lengths, where they are told.
--- Used in this crate alone.
+-- Used in this crate and by `search_run`.
 use Rattle.std.specs.Prelude.{◌≡◌, ℕ, ◌+◌, ◌*◌, ◌<◌, ◌≤◌, List, [], ◌∷◌, ◌++◌, Option, Some, None}
 use Rattle.layouts.specs.declared.numbers.LayoutNumbers.{LayoutNumbers}
 use Rattle.layouts.specs.Chunks.{chunk_cells}

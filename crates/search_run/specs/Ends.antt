@@ -9,6 +9,7 @@ use Rattle.report.specs.Status.{status_of, message_of, Says}
 use Rattle.report.specs.declared.ending.Failure.TheVariants.{NoMemory}
 use Rattle.report.specs.declared.ending.Ending.{Ending}
 use Rattle.report.specs.declared.ending.Ending.TheVariants.{Done, Refused, Failed}
+use Rattle.search_run.specs.Reads.{AsksOf}
 use Rattle.search_run.specs.Meaning.{Meaning, told_verdict_of, told_file_of}
 
 -- an ending that is not a failure is the verdict, if it is told
@@ -74,6 +75,8 @@ pub record RunsAs (m : Meaning) (ending : Ending) (old new : ShelfState) : Type 
   -- a fault that the status does not name did not come
   pub no_read_fault : status_of ending ≢ 5 → SameReadFaults old new
   pub no_write_fault : status_of ending ≢ 6 → SameWriteFaults old new
+  -- it read no more than its parts of its files
+  pub asked : AsksOf m.reads old.holds old.asked new.asked
   -- it opened or created its names in order, all of them at `Done`, and handed everything back
   pub opened : AppendsPrefix old.opened m.openings new.opened
   pub all_opened : ending ≡ Done → new.opened ≡ appended old.opened m.openings

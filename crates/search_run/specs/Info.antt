@@ -13,6 +13,7 @@ use Rattle.report.specs.InfoText.{info_text}
 use Rattle.report.specs.declared.ending.Refusal.{Refusal}
 use Rattle.report.specs.declared.ending.Refusal.TheVariants as refusal
 use Rattle.search_run.specs.Meaning.{Meaning}
+use Rattle.search_run.specs.Reads.{array_parts}
 use Rattle.search_run.specs.declared.info.ArrayInfo.{ArrayInfo}
 use Rattle.search_run.specs.declared.stop.Stop.{Stop}
 use Rattle.search_run.specs.declared.stop.Stop.TheVariants.{Refused, Failed}
@@ -41,6 +42,7 @@ describing array =
       output = λ files. info_output (bytes_at files array);
       makes_file = false;
       file = λ files. None;
+      reads = λ files. (array, array_parts (refusal_of (bytes_at files array)) (bytes_at files array)) ∷ [];
       openings = array ∷ [];
     }
 

@@ -4,6 +4,7 @@ pub mod Loads
 pub mod Meaning
 pub mod Meanings
 pub mod Problem
+pub mod Reads
 pub mod Stops
 pub mod Texts
 pub mod Verdict

@@ -6,6 +6,7 @@ use Rattle.report.specs.declared.ending.Refusal.{Refusal}
 use Rattle.report.specs.declared.ending.Refusal.TheVariants.{Words}
 use Rattle.report.specs.declared.ending.Ending.{Ending}
 use Rattle.report.specs.declared.ending.Ending.TheVariants.{Done, Refused}
+use Rattle.search_run.specs.Reads.{Parts}
 
 -- what a command does if nothing fails
 pub record Meaning : Type 0 where
@@ -17,6 +18,8 @@ pub record Meaning : Type 0 where
   pub makes_file : Bool
   -- the name and the bytes of the file that it makes, if it makes one
   pub file : Files → Option (List ℕ × List ℕ)
+  -- which parts of which files it reads, in the order in which the files are handed back
+  pub reads : Files → List (List ℕ × Parts)
   -- which names it opens or creates, in order
   pub openings : List (List ℕ)
 
@@ -28,6 +31,7 @@ refusing =
       output = λ files. [];
       makes_file = false;
       file = λ files. None;
+      reads = λ files. [];
       openings = [];
     }
 

@@ -2,17 +2,19 @@
 -- Used by the commands that list solutions.
 use Rattle.std.specs.Prelude.{◌≡◌, ℕ, List, [], ◌∷◌, Option, Some, None, Result, Ok, Err, MatchOption, ⊤, false}
 use Rattle.std.specs.Option.{option_map_or}
-use Rattle.source_io.specs.Files.{bytes_at}
+use Rattle.source_io.specs.Asked.{Read}
+use Rattle.source_io.specs.Files.{bytes_at, Files}
 use Rattle.cells.specs.Array.{Array}
 use Rattle.cells.specs.Cells.{array_of}
 use Rattle.array_file.specs.Stored.{refusal_of, stored_array}
 use Rattle.query_model.specs.QueryParts.{QueryParts}
 use Rattle.query_model.specs.Text.{text_of}
 use Rattle.query_model.specs.declared.query.Query.{Query}
-use Rattle.query_text.specs.Walk.{Walked, walk}
+use Rattle.query_text.specs.Walk.{Walked, walk, most_bytes}
 use Rattle.report.specs.declared.ending.Refusal.{Refusal}
 use Rattle.report.specs.declared.ending.Refusal.TheVariants as refusal
 use Rattle.search_run.specs.Meaning.{Meaning}
+use Rattle.search_run.specs.Reads.{Parts, AsksParts, AsksFiles, whole_up_to, array_parts}
 use Rattle.search_run.specs.declared.problem.Problem.{Problem}
 use Rattle.search_run.specs.declared.stop.Stop.{Stop}
 use Rattle.search_run.specs.declared.stop.Stop.TheVariants.{Refused, Failed}
@@ -39,6 +41,17 @@ problem_refusal array query = option_map_or (λ r. Some (refusal.Array r)) (refu
 abbrev pub problem_output : List ℕ → List ℕ → List ℕ
 problem_output array query = option_map_or (λ r. []) (refusal_of array) (query_output (stored_array array) (stated_query array query))
 
+-- the parts of the query file that are read: nothing if the array file is refused, or if the query file is too long
+abbrev pub query_parts : List ℕ → List ℕ → Parts
+query_parts array query = option_map_or (λ r. []) (refusal_of array) (whole_up_to most_bytes query)
+
+-- which parts of the two files are read. The query file is handed back first
+abbrev pub problem_reads : List ℕ → List ℕ → Files → List (List ℕ × Parts)
+problem_reads array query files =
+    let a = bytes_at files array in
+    let q = bytes_at files query in
+    (query, query_parts a q) ∷ (array, array_parts (problem_refusal a q) a) ∷ []
+
 -- to print the solutions of a query on an array
 abbrev pub listing : List ℕ → List ℕ → Meaning
 listing array query =
@@ -47,6 +60,7 @@ listing array query =
       output = λ files. problem_output (bytes_at files array) (bytes_at files query);
       makes_file = false;
       file = λ files. None;
+      reads = problem_reads array query;
       openings = array ∷ query ∷ [];
     }
 
@@ -75,6 +89,14 @@ abbrev pub LoadsProblem : Option (List ℕ) → Option (List ℕ) → Result Pro
 LoadsProblem array query (Ok p) = LoadsArray array p × IsStatedQuery array query p.query
 LoadsProblem array query (Err (Refused r)) = IsProblemRefusal array query r
 LoadsProblem array query (Err (Failed f)) = ⊤
+
+-- of the array file, the header was asked for, and the cells only if neither file is refused, if both are told
+abbrev pub AsksArray : Option (List ℕ) → Option (List ℕ) → Option (List (ℕ × ℕ)) → Option (List (ℕ × ℕ)) → Type 0
+AsksArray array query old new = MatchOption array ⊤ (λ a. MatchOption query ⊤ (λ q. AsksParts (array_parts (problem_refusal a q) a) old new))
+
+-- of the query file with this name, its parts were asked for, if both files are told
+abbrev pub AsksQuery : Option (List ℕ) → Option (List ℕ) → List ℕ → Option (List Read) → Option (List Read) → Type 0
+AsksQuery array query name old new = MatchOption array ⊤ (λ a. MatchOption query ⊤ (λ q. AsksFiles ((name, query_parts a q) ∷ []) old new))
 
 -- these are the told bytes
 abbrev pub IsTold : Option (List ℕ) → List ℕ → Type 0

@@ -1,6 +1,6 @@
 -- What it means to make the array file of an array text, and what loading the text answers.
 -- Used by the command `pack`.
-use Rattle.std.specs.Prelude.{◌≡◌, ℕ, List, [], ◌∷◌, length, Option, Some, None, option_map, Result, Ok, Err, MatchOption, ⊤, true}
+use Rattle.std.specs.Prelude.{◌≡◌, ℕ, ◌^◌, List, [], ◌∷◌, length, Option, Some, None, option_map, Result, Ok, Err, MatchOption, ⊤, true}
 use Rattle.source_io.specs.Files.{bytes_at}
 use Rattle.cells.specs.declared.cell.Cell.{Cell}
 use Rattle.layouts.specs.declared.numbers.LayoutNumbers.{LayoutNumbers}
@@ -11,6 +11,7 @@ use Rattle.array_text.specs.declared.read.ArrayText.{ArrayText}
 use Rattle.report.specs.declared.ending.Refusal.{Refusal}
 use Rattle.report.specs.declared.ending.Refusal.TheVariants as refusal
 use Rattle.search_run.specs.Meaning.{Meaning}
+use Rattle.search_run.specs.Reads.{whole_up_to}
 use Rattle.search_run.specs.declared.stop.Stop.{Stop}
 use Rattle.search_run.specs.declared.stop.Stop.TheVariants.{Refused, Failed}
 
@@ -36,6 +37,7 @@ packing text array =
       output = λ files. [];
       makes_file = true;
       file = λ files. packed_file array (bytes_at files text);
+      reads = λ files. (text, whole_up_to (2 ^ 30) (bytes_at files text)) ∷ [];
       openings = text ∷ array ∷ [];
     }
 

@@ -4,7 +4,9 @@ ghost use Rattle.source_io.specs.Told.{Rose};
 ghost use Rattle.source_io.specs.Shelf.{SameWriteFaults};
 ghost use Rattle.report.specs.Status.{status_of};
 ghost use Rattle.search_run.specs.Info.{LoadsInfo, describing};
+ghost use Rattle.array_file.specs.Stored.{refusal_of};
 ghost use Rattle.search_run.specs.Meaning.{told_output_of};
+ghost use Rattle.search_run.specs.Reads.{array_parts};
 ghost use Rattle.search_run.specs.Ends.{Prints, RunsAs};
 
 use crate::load::{Load, load_file};
@@ -34,10 +36,13 @@ impl Load for DescribedFile {
 
     ghost loads = { λ what bytes result. LoadsInfo bytes result };
 
+    ghost parts = { λ what bytes. array_parts (refusal_of bytes) bytes };
+
     ghost may_fail = { λ what bytes failure. tt };
 
     /// No more than one chunk is in memory at a time.
     fn load<S: ByteSource>(&self, alloc: Global, source: &mut S) -> Result<ArrayInfo, Stop> {
+        let _size = source.size();
         let layout = read_header(source)?;
         let cells = array_record(alloc, &layout, source)?;
         Ok(ArrayInfo { layout, cells })

@@ -6,7 +6,8 @@ ghost use Rattle.source_io.specs.Files.{file_of};
 ghost use Rattle.source_io.specs.Shelf.{ReadsFailed, SameReadFaults};
 ghost use Rattle.lists.specs.Appending.{appended};
 ghost use Rattle.search_run.specs.Loads.{OnlyOpens};
-ghost use Rattle.search_run.specs.Problem.{LoadsProblem};
+ghost use Rattle.search_run.specs.Problem.{LoadsProblem, AsksArray, AsksQuery, problem_reads};
+ghost use Rattle.search_run.specs.Reads.{AsksOf};
 ghost use Rattle.search_run.specs.Stops.{IsOfReading, IsCausedBy, UnlessReadFault};
 
 use crate::Problem;
@@ -35,9 +36,15 @@ fn problem_from<F: Shelf>(
     ensures no_fault { UnlessReadFault
         ((F.Source.faults array.new ≡ F.Source.faults array.old) × SameReadFaults (F.state shelf.old) (F.state shelf.new))
         result }
+    ensures asked_array { AsksArray (F.Source.file array.old).bytes (file_of (F.state shelf.old).holds query.now)
+        (F.Source.asked array.old) (F.Source.asked array.new) }
+    ensures asked_query { AsksQuery (F.Source.file array.old).bytes (file_of (F.state shelf.old).holds query.now) query.now
+        (F.state shelf.old).asked (F.state shelf.new).asked }
+    ensures same_file { F.Source.file array.new ≡ F.Source.file array.old }
     ensures opens { OnlyOpens (query.now ∷ []) (F.state shelf.old) (F.state shelf.new) }
     ensures all_opened { OnOk result ((F.state shelf.new).opened ≡ appended (F.state shelf.old).opened (query.now ∷ [])) }
 {
+    let _size = array.size();
     let layout = read_header(array)?;
     let query_file = QueryFile {
         rank: layout.rank(),
@@ -64,6 +71,7 @@ pub fn load_problem<F: Shelf>(
     ensures reads { IfErr result IsOfReading }
     ensures cause { IfErr result (IsCausedBy (ReadsFailed (F.state shelf.old) (F.state shelf.new))) }
     ensures no_fault { UnlessReadFault (SameReadFaults (F.state shelf.old) (F.state shelf.new)) result }
+    ensures asked { AsksOf (problem_reads array.now query.now) (F.state shelf.old).holds (F.state shelf.old).asked (F.state shelf.new).asked }
     ensures opens { OnlyOpens (array.now ∷ query.now ∷ []) (F.state shelf.old) (F.state shelf.new) }
     ensures all_opened { OnOk result
         ((F.state shelf.new).opened ≡ appended (F.state shelf.old).opened (array.now ∷ query.now ∷ [])) }

@@ -8,6 +8,7 @@ ghost use Rattle.lists.specs.Numbers.{product};
 ghost use Rattle.array_file.specs.Written.{array_bytes};
 ghost use Rattle.report.specs.Status.{status_of};
 ghost use Rattle.search_run.specs.Texts.{LoadsText, packing};
+ghost use Rattle.search_run.specs.Reads.{whole_up_to};
 ghost use Rattle.search_run.specs.Ends.{IsFailed, RunsAs};
 
 use crate::load::{Load, load_file};
@@ -29,6 +30,8 @@ impl Load for TextFile {
     type Value = ArrayText;
 
     ghost loads = { λ what bytes result. LoadsText bytes result };
+
+    ghost parts = { λ what bytes. whole_up_to (2 ^ 30) bytes };
 
     ghost may_fail = { λ what bytes failure. tt };
 

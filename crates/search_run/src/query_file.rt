@@ -1,7 +1,9 @@
 //! Loading a query.
 //! Used in this crate by `load_problem`.
 ghost use Rattle.std.specs.Prelude.{◌≡◌, ◌≤◌};
+ghost use Rattle.query_text.specs.Walk.{most_bytes};
 ghost use Rattle.search_run.specs.Problem.{LoadsQuery};
+ghost use Rattle.search_run.specs.Reads.{whole_up_to};
 
 use crate::load::Load;
 use crate::read_all::read_all;
@@ -23,6 +25,8 @@ impl Load for QueryFile {
     type Value = Query;
 
     ghost loads = { λ what bytes result. LoadsQuery what.rank bytes result };
+
+    ghost parts = { λ what bytes. whole_up_to most_bytes bytes };
 
     ghost may_fail = { λ what bytes failure. tt };
 

@@ -8,7 +8,8 @@ ghost use Rattle.command_words.specs.Commands.{command_of};
 ghost use Rattle.report.specs.Status.{status_of};
 ghost use Rattle.search_run.specs.Meaning.{told_output_of};
 ghost use Rattle.search_run.specs.Meanings.{meaning, meaning_in, done_for};
-ghost use Rattle.search_run.specs.Verdict.{asked_by, told_verdict, told_output, makes_file, told_file, openings};
+ghost use Rattle.search_run.specs.Verdict.{asked_by, told_verdict, told_output, makes_file, told_file, reads, openings};
+ghost use Rattle.search_run.specs.Reads.{AsksOf};
 ghost use Rattle.search_run.specs.Ends.{
   RunsAs,
   MakesFile,
@@ -59,7 +60,7 @@ fn run_command<F: Shelf, O: Sink>(
 }
 
 /// Runs the command that the words name, and answers how it ended. It writes nothing to the error stream.
-#[tactic(auto, using(lists::proofs::Appending::prefix_nothing))]
+#[tactic(auto, using(lists::proofs::Appending::prefix_nothing, crate::proofs::Asking::told_same))]
 fn run<F: Shelf, O: Sink>(alloc: Global, words: &[String], shelf: &mut F, out: &mut O) -> Ending
     requires lent { (F.state shelf.old).lent < 2 ^ 16 }
     requires making { (F.state shelf.old).making ≡ None }
@@ -140,6 +141,10 @@ pub fn run_tool<F: Shelf, O: Sink, E: Sink>(
         MakesFile (told_file (F.state shelf.old).holds words.now) (F.state shelf.old).holds (F.state shelf.new).holds }
     ensures left { LeavesFile (told_file (F.state shelf.old).holds words.now) (F.state shelf.old).holds (F.state shelf.new).holds }
     ensures unmade { result ≢ 0 → result ≢ 6 → (F.state shelf.new).holds ≡ (F.state shelf.old).holds }
+
+    // It reads no other parts of the files than the command's: nothing of a file that is too long, and the cells of an
+    // array file only after everything else was accepted.
+    ensures asked { AsksOf (reads words.now) (F.state shelf.old).holds (F.state shelf.old).asked (F.state shelf.new).asked }
 
     // It opens and creates no other names than the command's, and hands all files back.
     ensures opened { AppendsPrefix (F.state shelf.old).opened (openings words.now) (F.state shelf.new).opened }
