@@ -6,7 +6,7 @@ use std::alloc::Global;
 use std::path::PathBuf;
 use std::test::Fail;
 use std::{env, fs, process};
-use system_files::{FileShelf, WriterSink};
+use system_files::{FileShelf, RuntimeFiles, WriterSink};
 
 /// A path of the test's own in the folder for temporary files.
 fn own_path(rt: &HostRuntime, name: &str) -> Result<PathBuf, Fail> {
@@ -24,7 +24,7 @@ fn pattern(alloc: Global, n: usize) -> Result<Vec<u8>, Fail> {
 }
 
 /// Why a name was not opened. If it was opened, its source is handed back.
-fn fault_of(shelf: &mut FileShelf<HostRuntime>, name: &str) -> Option<OpenFault>
+fn fault_of(shelf: &mut FileShelf<RuntimeFiles<HostRuntime>>, name: &str) -> Option<OpenFault>
     requires { shelf.old.lent < 2 ^ 32 }
     ensures { shelf.new.lent ≡ shelf.old.lent }
 {
@@ -38,7 +38,11 @@ fn fault_of(shelf: &mut FileShelf<HostRuntime>, name: &str) -> Option<OpenFault>
 }
 
 /// Creates a file, writes the bytes and finishes it. Answers whether all of them were written.
-fn keep(shelf: &mut FileShelf<HostRuntime>, name: &str, bytes: &[u8]) -> Result<bool, OpenFault>
+fn keep(
+    shelf: &mut FileShelf<RuntimeFiles<HostRuntime>>,
+    name: &str,
+    bytes: &[u8],
+) -> Result<bool, OpenFault>
     requires { shelf.old.making ≡ None }
     ensures { shelf.new.making ≡ None }
 {

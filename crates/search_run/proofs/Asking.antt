@@ -1,6 +1,6 @@
 -- What loading asks of a source and of a shelf, part by part and file by file.
 -- Used by everything that loads a file.
-use Rattle.std.proofs.Common.{◌≡◌, ℕ, ◌+◌, ◌<◌, ◌≤◌, List, [], ◌∷◌, ◌++◌, map, length, min, Option, Some, None, Ok, MatchOption, IfSome, sym, ap, refl, ◌∙◌, subst, append_assoc, append-nil}
+use Rattle.std.proofs.Common.{◌≡◌, ℕ, ◌+◌, List, [], ◌∷◌, ◌++◌, length, min, Option, Some, None, Ok, MatchOption, IfSome, sym, ap, refl, ◌∙◌, subst, append_assoc, append-nil}
 use Rattle.source_io.specs.Asked.{Rising, Asks, Read, reads_of, asked_under}
 use Rattle.source_io.specs.Told.{SizeIs}
 use Rattle.source_io.specs.Files.{Files}

@@ -1,7 +1,7 @@
 -- Which parts of which files a command reads.
 -- Used by everything that loads a file, and by the top call. A part of a file is two offsets: where it begins and where
 -- it ends.
-use Rattle.std.specs.Prelude.{◌≡◌, ⊤, ℕ, ◌<◌, ◌≤◌, List, [], ◌∷◌, ◌++◌, length, min, nat_le, if◌then◌else◌, Option, Some, None, MatchOption}
+use Rattle.std.specs.Prelude.{◌≡◌, ⊤, ℕ, List, [], ◌∷◌, ◌++◌, length, min, nat_le, if◌then◌else◌, Option, Some, None, MatchOption}
 use Rattle.source_io.specs.Asked.{Rising, Read, reads_of}
 use Rattle.source_io.specs.Files.{Files}
 

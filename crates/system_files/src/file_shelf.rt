@@ -1,21 +1,19 @@
 //! The system's files as a shelf, which the program runs its command on.
-ghost use Rattle.std.specs.Prelude.{◌≡◌, None, IfSome, option_map, string_bytes};
-ghost use Rattle.std.specs.Fs.{IsFile, file_type};
+ghost use Rattle.std.specs.Prelude.{◌≡◌, [], None, IfOk, OnOk, OnErr, option_map, string_bytes};
+ghost use Rattle.source_io.specs.Files.{with_file};
 
 use crate::fault_count::one_more;
 use crate::file_source::FileSource;
+use crate::file_system::{FileSystem, RuntimeFiles};
 use crate::writer_sink::WriterSink;
 use source_io::{NoMemory, OpenFault, Shelf};
 use std::alloc::Global;
-use std::fs;
-use std::fs::{Files, Metadata, OpenFile};
-use std::os::unix::fs::FileExt;
 
-/// The files that a runtime reaches by their paths. As a shelf it does not tell what they hold.
+/// The files of a file system. As a shelf it does not tell what they hold.
 #[derive(Drop)]
-pub struct FileShelf<R> {
+pub struct FileShelf<S> {
     /// What opens and creates files.
-    pub rt: R,
+    pub system: S,
     /// What allocates the buffers of the sources, and the copy of the name of a created file.
     pub alloc: Global,
     /// How many openings and creatings failed. The count ends at `u64::MAX`.
@@ -30,9 +28,9 @@ pub struct FileShelf<R> {
     pub making: Option<String>,
 }
 
-impl<R: Files> FileShelf<R> {
-    /// A shelf with no faults that has lent nothing.
-    pub fn new(rt: R, alloc: Global) -> FileShelf<R>
+impl<R> FileShelf<RuntimeFiles<R>> {
+    /// A shelf of the files that a runtime reaches. It has no faults and has lent nothing.
+    pub fn new(rt: R, alloc: Global) -> FileShelf<RuntimeFiles<R>>
         ensures faults { result.faults ≡ 0 }
         ensures source_faults { result.source_faults ≡ 0 }
         ensures sink_faults { result.sink_faults ≡ 0 }
@@ -40,7 +38,7 @@ impl<R: Files> FileShelf<R> {
         ensures making { result.making ≡ None }
     {
         FileShelf {
-            rt,
+            system: RuntimeFiles { rt },
             alloc,
             faults: 0,
             source_faults: 0,
@@ -51,13 +49,13 @@ impl<R: Files> FileShelf<R> {
     }
 }
 
-impl<R: Files> Shelf for FileShelf<R>
+impl<S: FileSystem> Shelf for FileShelf<S>
 where
-    R::File: FileExt + Send,
+    S::Opened: Send,
 {
-    type Source = FileSource<R::File>;
+    type Source = FileSource<S::Opened>;
 
-    type Out = WriterSink<R::File>;
+    type Out = WriterSink<S::Created>;
 
     ghost state = { λ s. record {
       holds = None;
@@ -70,12 +68,12 @@ where
       making = option_map string_bytes s.making;
     } };
 
-    fn open(&mut self, name: &str) -> Result<FileSource<R::File>, OpenFault> {
-        let Some((file, metadata)) = open_file(&self.rt, name) else {
+    fn open(&mut self, name: &str) -> Result<FileSource<S::Opened>, OpenFault> {
+        let Some((file, size)) = self.system.open(name) else {
             self.faults = one_more(self.faults);
             return Err(OpenFault::Failed);
         };
-        match FileSource::new(self.alloc, file, &metadata) {
+        match FileSource::new(self.alloc, file, size) {
             Ok(source) => {
                 self.lent += 1;
                 Ok(source)
@@ -84,44 +82,47 @@ where
         }
     }
 
-    fn close(&mut self, source: FileSource<R::File>) {
+    fn close(&mut self, source: FileSource<S::Opened>) {
         self.source_faults = self.source_faults.saturating_add(source.close());
         self.lent -= 1;
     }
 
-    // A file that already has the path is made empty.
-    fn create(&mut self, name: &str) -> Result<WriterSink<R::File>, OpenFault> {
-        let Ok(made) = String::from_str(self.alloc, name) else {
-            return Err(OpenFault::NoMemory);
-        };
-        match fs::create(&self.rt, name) {
-            Ok(file) => {
+    fn create(&mut self, name: &str) -> Result<WriterSink<S::Created>, OpenFault> {
+        match create_named(&mut self.system, self.alloc, name) {
+            Ok((file, made)) => {
                 self.making = Some(made);
                 Ok(WriterSink::new(file))
             }
-            Err(_) => {
+            Err(OpenFault::Failed) => {
                 self.faults = one_more(self.faults);
                 Err(OpenFault::Failed)
             }
+            Err(OpenFault::NoMemory) => Err(OpenFault::NoMemory),
         }
     }
 
-    fn finish(&mut self, _name: &str, out: WriterSink<R::File>) {
+    fn finish(&mut self, _name: &str, out: WriterSink<S::Created>) {
         self.sink_faults = self.sink_faults.saturating_add(out.close());
         self.making = None;
     }
 }
 
-/// The file with a path, open for reading, and its metadata. `None` if it cannot be opened, has no metadata, or is not
-/// a regular file.
-fn open_file<R: Files>(rt: &R, path: &str) -> Option<(R::File, Metadata)>
-    ensures { IfSome result (λ opened. IsFile (file_type opened.1)) }
+/// Creates a file, and gives a copy of its name too. A file that has the name already is made empty. If that fails, or
+/// if there is no memory for the copy, no file changed.
+fn create_named<S: FileSystem>(
+    system: &mut S,
+    alloc: Global,
+    name: &str,
+) -> Result<(S::Created, String), OpenFault>
+    ensures name { IfOk result (λ made. string_bytes made.1 ≡ name.now) }
+    ensures created { OnOk result (S.files system.new ≡ with_file (S.files system.old) name.now []) }
+    ensures unchanged { OnErr result (S.files system.new ≡ S.files system.old) }
 {
-    let file = fs::open(rt, path).ok()?;
-    let metadata = file.metadata().ok()?;
-    if metadata.is_file() {
-        Some((file, metadata))
-    } else {
-        None
+    let Ok(made) = String::from_str(alloc, name) else {
+        return Err(OpenFault::NoMemory);
+    };
+    match system.create(name) {
+        Some(file) => Ok((file, made)),
+        None => Err(OpenFault::Failed),
     }
 }

@@ -1,12 +1,11 @@
 //! A buffer for a file that is mostly read from its beginning to its end. Each file source has one.
 ghost use Rattle.std.specs.Prelude.{◌≡◌, ◌<◌, ◌≤◌, ◌+◌, ◌-◌, ◌^◌, ◌++◌, length, take, drop, true, false, IfOk, IfSome, vec_len};
+ghost use Rattle.source_io.specs.Told.{Holds};
 ghost use Rattle.system_files.specs.declared.read_ahead.TheConstants.{ROOM};
 
-use crate::tries::TRIES;
+use crate::reader::Reader;
 use source_io::NoMemory;
 use std::alloc::Global;
-use std::io::ErrorKind;
-use std::os::unix::fs::FileExt;
 
 /// The size of the buffer in bytes. One read of the system takes at most this many.
 pub const ROOM: usize = 65536;
@@ -54,16 +53,17 @@ impl ReadAhead {
 
     /// Reads from an offset on. `wanted` bytes are asked for, and the file has `left` bytes from there. Answers whether
     /// at least one byte was read. If so, the buffer then holds the bytes that were read. Otherwise it holds nothing.
-    pub fn fetch<F: FileExt>(&mut self, file: &F, offset: u64, wanted: u64, left: u64) -> bool
+    pub fn fetch<R: Reader>(&mut self, file: &R, offset: u64, wanted: u64, left: u64) -> bool
         requires some { 0 < wanted }
         requires within { wanted ≤ left }
         ensures held { result ≡ true → (self.new.start ≡ offset) × (0 < self.new.held) }
         ensures nothing { result ≡ false → self.new.held ≡ 0 }
+        ensures bytes { Holds (R.bytes file.now) self.new.start self.new.held (take self.new.held self.new.buffer.items) }
     {
         let most = if offset == self.next { left } else { wanted };
         let most = most.min(ROOM as u64) as usize;
         self.held = 0;
-        let Some(n) = read_some(file, offset, most, self.buffer.as_mut_slice()) else {
+        let Some(n) = read_into(file, offset, most, self.buffer.as_mut_slice()) else {
             return false;
         };
         self.start = offset;
@@ -81,6 +81,7 @@ impl ReadAhead {
         ensures held { offset + result ≤ self.old.start + self.old.held }
         ensures bytes { into.new ≡ take result (drop (offset - self.old.start) self.old.buffer.items) ++ drop result into.old }
         ensures rest { drop result into.new ≡ drop result into.old }
+        ensures same { (self.new.start ≡ self.old.start) × (self.new.held ≡ self.old.held) × (self.new.buffer ≡ self.old.buffer) }
     {
         let first = (offset - self.start) as usize;
         let n = into.len().min(self.held - first);
@@ -90,22 +91,15 @@ impl ReadAhead {
     }
 }
 
-/// Makes one read of at most so many bytes from an offset on, and answers how many were read. `None` if it failed, or
-/// read no byte. A read that a signal interrupts is tried again, `TRIES` times in all.
-fn read_some<F: FileExt>(file: &F, offset: u64, most: usize, into: &mut [u8]) -> Option<usize>
-    requires { most ≤ length into.old }
+/// Makes one read of at most `most` bytes from an offset on into the beginning of `into`, and answers how many were
+/// read, at least one. `None` if there were none.
+fn read_into<R: Reader>(file: &R, offset: u64, most: usize, into: &mut [u8]) -> Option<usize>
+    requires { (0 < most) × (most ≤ length into.old) }
     ensures count { IfSome result (λ n. (0 < n) × (n ≤ most)) }
+    ensures bytes { IfSome result (λ n. Holds (R.bytes file.now) offset n (take n into.new)) }
     ensures room { length into.new ≡ length into.old }
 {
-    for _ in 0..TRIES {
-        match file.read_at(&mut into[..most], offset) {
-            Ok(0) => return None,
-            Ok(n) => return Some(n),
-            Err(e) if e.kind() == ErrorKind::Interrupted => {}
-            Err(_) => return None,
-        }
-    }
-    None
+    file.read_some(offset, &mut into[..most])
 }
 
 /// Copies the items to the beginning of `into`, which has room for them. The rest of it stays.
