@@ -42,6 +42,7 @@ impl Load for DescribedFile {
 
     /// No more than one chunk is in memory at a time.
     fn load<S: ByteSource>(&self, alloc: Global, source: &mut S) -> Result<ArrayInfo, Stop> {
+        // Nothing uses the number. The clauses of `size` say that a source that tells its bytes has as many.
         let _size = source.size();
         let layout = read_header(source)?;
         let cells = array_record(alloc, &layout, source)?;

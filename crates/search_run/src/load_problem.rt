@@ -44,6 +44,7 @@ fn problem_from<F: Shelf>(
     ensures opens { OnlyOpens (query.now ∷ []) (F.state shelf.old) (F.state shelf.new) }
     ensures all_opened { OnOk result ((F.state shelf.new).opened ≡ appended (F.state shelf.old).opened (query.now ∷ [])) }
 {
+    // Nothing uses the number. The clauses of `size` say that a source that tells its bytes has as many.
     let _size = array.size();
     let layout = read_header(array)?;
     let query_file = QueryFile {

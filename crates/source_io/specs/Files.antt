@@ -11,7 +11,7 @@ use Rattle.lists.specs.Appending.{IsPrefixOf}
 abbrev pub Files : Type 0
 Files = map.FinMap (slice_cmp nat_cmp) (List ℕ)
 
--- the bytes of a name; `None` if no file has it
+-- the bytes of the file with a name; no bytes if there is no such file
 abbrev pub bytes_at : Files → List ℕ → List ℕ
 bytes_at files name = unwrap_or (map.get files name) []
 

@@ -1,5 +1,5 @@
 //! A buffer for a file that is mostly read from its beginning to its end. Each file source has one.
-ghost use Rattle.std.specs.Prelude.{◌≡◌, ◌<◌, ◌≤◌, ◌+◌, ◌-◌, ◌^◌, ◌++◌, length, take, drop, true, false, IfOk, IfSome, vec_len};
+ghost use Rattle.std.specs.Prelude.{◌≡◌, ◌<◌, ◌≤◌, ◌+◌, ◌-◌, ◌^◌, ◌++◌, length, take, drop, true, false, IsTrue, ◌↔◌, IfOk, IfSome, vec_len};
 ghost use Rattle.source_io.specs.Told.{Holds};
 ghost use Rattle.system_files.specs.declared.read_ahead.TheConstants.{ROOM};
 
@@ -46,7 +46,7 @@ impl ReadAhead {
 
     /// Whether it holds the byte at this offset of the file.
     pub fn has(&self, offset: u64) -> bool
-        ensures { result ≡ true → (self.now.start ≤ offset) × (offset < self.now.start + self.now.held) }
+        ensures { IsTrue result ↔ ((self.now.start ≤ offset) × (offset < self.now.start + self.now.held)) }
     {
         offset >= self.start && offset - self.start < self.held as u64
     }
@@ -58,6 +58,7 @@ impl ReadAhead {
         requires within { wanted ≤ left }
         ensures held { result ≡ true → (self.new.start ≡ offset) × (0 < self.new.held) }
         ensures nothing { result ≡ false → self.new.held ≡ 0 }
+        ensures next { self.new.next ≡ self.old.next }
         ensures bytes { Holds (R.bytes file.now) self.new.start self.new.held (take self.new.held self.new.buffer.items) }
     {
         let most = if offset == self.next { left } else { wanted };
@@ -79,6 +80,7 @@ impl ReadAhead {
         requires held { offset < self.old.start + self.old.held }
         ensures count { (0 < result) × (result ≤ length into.old) }
         ensures held { offset + result ≤ self.old.start + self.old.held }
+        ensures next { self.new.next ≡ offset + result }
         ensures bytes { into.new ≡ take result (drop (offset - self.old.start) self.old.buffer.items) ++ drop result into.old }
         ensures rest { drop result into.new ≡ drop result into.old }
         ensures same { (self.new.start ≡ self.old.start) × (self.new.held ≡ self.old.held) × (self.new.buffer ≡ self.old.buffer) }
