@@ -4,10 +4,10 @@ use Rattle.std.proofs.Common.{◌≡◌, ◌+◌, ◌*◌, ◌^◌, eqb, List, [
 use Rattle.std.specs.Int.{int_min, int_max}
 use Rattle.std.proofs.lemmas.Int.{ints}
 use Rattle.std.proofs.lemmas.Bool.{cond_both, eqb-true, eqb-false}
-use Rattle.std.proofs.lemmas.List.Sorted.{sum_by-IsPermutation}
 use Rattle.lists.specs.Numbers.{sum_of, IsWithin, HaveSameItems}
 use Rattle.lists.proofs.Folds.{fold-append_cons, int_min-int_min, int_max-int_max, sum_of-append}
-use Rattle.lists.proofs.Orders.{length-same, sum_of-same, ends-same}
+use Rattle.lists.proofs.Orders.{sum_of-same, ends-same}
+use Rattle.lists.proofs.SameItems.{length-same, same-permuted}
 use Rattle.cells.specs.Records.{record_of, merged}
 use Rattle.cells.specs.declared.record.Record.{Record}
 
@@ -64,7 +64,7 @@ record_of-same xs ys same =
     (λ i. record { least = unwrap_or (ends.0 i) (pos 0); greatest = unwrap_or (ends.1 i) (pos 0); sum = total i; count = count i })
 
 pub record_of-permutation : (xs ys : List ℤ) → IsPermutation xs ys → record_of xs ≡ record_of ys
-record_of-permutation xs ys moved = record_of-same xs ys (λ weight. sym (sum_by-IsPermutation weight xs ys moved))
+record_of-permutation xs ys moved = record_of-same xs ys (same-permuted xs ys moved)
 
 -- the merged record of two lists is the record of every list with the items of both
 pub merged-same : (a b r : Record) (xs ys all : List ℤ) → r ≡ merged a b → a ≡ record_of xs → b ≡ record_of ys → HaveSameItems all (xs ++ ys) → r ≡ record_of all

@@ -1,16 +1,23 @@
 //! What records, coordinates and rectangles are, in the words of the subject. Each law is the contract of a function
 //! that does nothing.
 //! Used by `chunk_store`.
-ghost use Rattle.std.specs.Prelude.{◌≡◌, ℕ, ℤ, List, ◌++◌, ◌<◌, ◌↔◌, true, ◌&&◌, length, filter, IsPermutation};
+ghost use Rattle.std.specs.Prelude.{◌≡◌, ℕ, ℤ, ◌≤ℤ◌, Some, All, Contains, List, ◌++◌, ◌<◌, ◌↔◌, true, ◌&&◌, length, filter, IsPermutation};
 ghost use Rattle.std.specs.Cmp.Lexicographic.{slice_cmp};
 ghost use Rattle.std.specs.List.{range_with_len};
 ghost use Rattle.std.specs.Ordering.{nat_cmp};
 ghost use Rattle.std.specs.declared.cmp.Ordering.TheVariants.{Less};
-ghost use Rattle.lists.specs.Numbers.{product, HaveSameItems};
+ghost use Rattle.lists.specs.Numbers.{product, least_of, greatest_of, HaveSameItems};
 ghost use Rattle.grids.specs.Coordinates.{coordinates_of, index_of, in_bounds};
 ghost use Rattle.cells.specs.Records.{record_of, merged};
 ghost use Rattle.cells.specs.Rects.{rect_contains, area_of, meet_of, whole_of, HasDimensions};
 ghost use Rattle.cells.specs.declared.rect.Rect.{Rect};
+
+/// The least of some numbers is the one among them that is at most each of them, and the greatest is the one that is at
+/// least each of them.
+pub fn least_and_greatest_bound_the_numbers()
+    ensures least { (numbers : List ℤ) (m : ℤ) → (least_of numbers ≡ Some m) ↔ (Contains numbers m × All (λ x. m ≤ℤ x) numbers) }
+    ensures greatest { (numbers : List ℤ) (m : ℤ) → (greatest_of numbers ≡ Some m) ↔ (Contains numbers m × All (λ x. x ≤ℤ m) numbers) }
+{}
 
 /// The record of the numbers of two lists is merged from their records.
 pub fn record_of_both_is_merged()

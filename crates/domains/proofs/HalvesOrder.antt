@@ -35,7 +35,7 @@ heads_in_order x y p q h =
 tails_in_order : (x : ℤ) (p q : Point) → ComesBefore (x ∷ p) (x ∷ q) → ComesBefore p q
 tails_in_order x p q h = sym (ap (λ o. ordering_then o (slice_cmp int_cmp p q)) (int_cmp-itself x)) ∙ h
 
-lowest_in : (ds : List Dom) → HaveValues ds → IsInBox ds (lowest ds)
+pub lowest_in : (ds : List Dom) → HaveValues ds → IsInBox ds (lowest ds)
 lowest_in [] h = tt
 lowest_in (d ∷ ds) h = (omega (arith, ints), h.0, lowest_in ds h.1)
 

@@ -5,6 +5,7 @@ pub mod NextPoint
 pub mod PointCounts
 pub mod NonemptyDomains
 pub mod Widest
+pub mod Within
 pub mod Halves
 pub mod Measures
 pub mod HalvesOrder

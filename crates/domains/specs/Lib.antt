@@ -3,4 +3,5 @@ pub mod Points
 pub mod VarBoxes
 pub mod Splits
 pub mod Strips
+pub mod Within
 pub mod Padded

@@ -1,6 +1,6 @@
 -- Points, their order, and the points of a list of domains.
 -- Used throughout, here and in every crate that speaks of solutions.
-use Rattle.std.specs.Prelude.{◌≡◌, ◌-◌, Contains, List, [], ◌∷◌, ◌++◌, length, replicate, map, flat_map, ℤ, pos, ◌+ℤ◌, ◌≤ℤ◌}
+use Rattle.std.specs.Prelude.{◌≡◌, ◌-◌, Bool, true, false, ◌&&◌, int_le, Contains, List, [], ◌∷◌, ◌++◌, length, replicate, map, flat_map, ℤ, pos, ◌+ℤ◌, ◌≤ℤ◌}
 use Rattle.std.specs.Ordering.{int_cmp, nat_cmp, ordering_then}
 use Rattle.std.specs.declared.cmp.Ordering.{Ordering}
 use Rattle.std.specs.declared.cmp.Ordering.TheVariants.{Less}
@@ -30,6 +30,13 @@ IsInBox [] [] = Unit {0}
 IsInBox [] (x ∷ p) = ⊥
 IsInBox (d ∷ ds) [] = ⊥
 IsInBox (d ∷ ds) (x ∷ p) = (d.lo ≤ℤ x) × (x ≤ℤ d.hi) × IsInBox ds p
+
+-- the same as a test
+abbrev pub is_in_box : List Dom → Point → Bool
+is_in_box [] [] = true
+is_in_box [] (x ∷ p) = false
+is_in_box (d ∷ ds) [] = false
+is_in_box (d ∷ ds) (x ∷ p) = int_le d.lo x && (int_le x d.hi && is_in_box ds p)
 
 -- the first value in which two points differ is smaller in the first point
 abbrev pub ComesBefore : Point → Point → Type 0

@@ -1,16 +1,17 @@
 //! What boxes, halves, strips and points are, in the words of the subject. Each law is the contract of a
 //! function that does nothing. `query_model` calls those that its own laws and the box of a query need.
 
-ghost use Rattle.std.specs.Prelude.{◌≡◌, ◌↔◌, ◌^◌, ◌+◌, ◌<◌, ◌≤◌, ℕ, ℤ, List, length, true, AllPairs, Contains, flat_map, take, All};
+ghost use Rattle.std.specs.Prelude.{◌≡◌, ◌↔◌, ◌^◌, ◌+◌, ◌<◌, ◌≤◌, ℕ, ℤ, List, length, true, AllPairs, Contains, flat_map, filter, All};
 ghost use Rattle.std.specs.Ordering.{int_cmp};
 ghost use Rattle.std.specs.declared.cmp.Ordering.TheVariants.{Equal};
 ghost use Rattle.std.specs.Cmp.{IsTotalOrder};
 ghost use Rattle.std.specs.Cmp.Lexicographic.{slice_cmp};
 ghost use Rattle.domains.specs.declared.dom.Dom.{Dom as DomOf};
-ghost use Rattle.domains.specs.Points.{points_of, IsInBox, ComesBefore, AllComeBefore, point_cmp};
-ghost use Rattle.domains.specs.VarBoxes.{IsBox, points_in, size_product};
+ghost use Rattle.domains.specs.Points.{points_of, IsInBox, is_in_box, ComesBefore, AllComeBefore, point_cmp};
+ghost use Rattle.domains.specs.VarBoxes.{IsBox, points_in, size_product, box_from};
 ghost use Rattle.domains.specs.Splits.{SharesOut, HaveOneValueBefore, first_half, second_half, widest, measure_of, bits_for};
 ghost use Rattle.domains.specs.Strips.{strip_count, strip_of, strips_of};
+ghost use Rattle.domains.specs.Within.{IsBoxWithin, width_of};
 
 use crate::Point;
 
@@ -18,6 +19,11 @@ use crate::Point;
 pub fn points_are_in_box()
     ensures domains { (ds : List DomOf) (p : List ℤ) → Contains (points_of ds) p ↔ IsInBox ds p }
     ensures boxes { (b : List DomOf) (p : List ℤ) → Contains (points_in b) p ↔ (IsInBox b p × (0 < length b)) }
+{}
+
+/// The test says whether each value of a point is within its domain.
+pub fn points_in_box_are_tested()
+    ensures { (ds : List DomOf) (p : List ℤ) → (is_in_box ds p ≡ true) ↔ IsInBox ds p }
 {}
 
 /// There are as many points as the product of the sizes of the domains. So a caller who knows the product knows whether
@@ -38,6 +44,32 @@ pub fn points_have_all_values()
 pub fn points_rise()
     ensures domains { (ds : List DomOf) → AllPairs ComesBefore (points_of ds) }
     ensures boxes { (b : List DomOf) → AllPairs ComesBefore (points_in b) }
+{}
+
+/// The box of some domains has the points of these domains. If one of them has no value, there are none.
+pub fn boxes_have_the_points_of_their_domains()
+    ensures { (ds : List DomOf) → 0 < length ds → points_in (box_from ds) ≡ points_of ds }
+{}
+
+/// Lying within is an order of boxes: each lies within itself, one that lies within a second lies within all that the
+/// second lies within, and two that lie within each other are equal.
+pub fn boxes_are_ordered()
+    ensures reflexive { (b : List DomOf) → IsBoxWithin b b }
+    ensures transitive { (a b c : List DomOf) → IsBoxWithin a b → IsBoxWithin b c → IsBoxWithin a c }
+    ensures antisymmetric { (a b : List DomOf) → IsBoxWithin a b → IsBoxWithin b a → a ≡ b }
+{}
+
+/// A box that lies within another is at most as wide, and as wide only if they are equal.
+pub fn boxes_within_are_narrower()
+    ensures narrower { (a b : List DomOf) → IsBox a → IsBoxWithin a b → width_of a ≤ width_of b }
+    ensures equal { (a b : List DomOf) → IsBox a → IsBox b → IsBoxWithin a b → (width_of a ≡ width_of b) ↔ (a ≡ b) }
+{}
+
+/// A box lies within another exactly if each of its points is a point of the other. Its points are those of the other
+/// that it has, in the same order.
+pub fn boxes_within_have_points_within()
+    ensures each { (a b : List DomOf) → IsBox a → IsBoxWithin a b ↔ ((p : List ℤ) → Contains (points_in a) p → Contains (points_in b) p) }
+    ensures order { (a b : List DomOf) → IsBoxWithin a b → points_in a ≡ filter (is_in_box a) (points_in b) }
 {}
 
 /// The halves of a box share no point and lose none.

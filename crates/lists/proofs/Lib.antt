@@ -6,6 +6,7 @@ pub mod Orders
 pub mod Ranges
 pub mod Rising
 pub mod Rules
+pub mod SameItems
 pub mod Short
 pub mod Sums
 pub mod Weights

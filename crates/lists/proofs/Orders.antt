@@ -1,17 +1,17 @@
 -- Numbers that every weighing gives the same weight: as many, with one sum, and with the same smallest and largest.
 -- Used by the proofs of `cells`.
-use Rattle.std.proofs.Common.{◌≡◌, ℕ, suc, ◌<◌, cond, inl, inr, List, [], ◌∷◌, length, ℤ, pos, negsuc, ◌+ℤ◌, ◌-ℤ◌, ◌≤ℤ◌, int_lt, refl, sym, ap, subst, ◌∙◌, arith, fold, Some}
+use Rattle.std.proofs.Common.{◌≡◌, ◌↔◌, ℕ, suc, All, Contains, get_or, inl, inr, List, [], ◌∷◌, length, ℤ, pos, negsuc, ◌+ℤ◌, ◌-ℤ◌, ◌≤ℤ◌, int_lt, refl, sym, ap, subst, ◌∙◌, arith, fold, Some}
 use Rattle.std.specs.Int.{int_min, int_max}
 use Rattle.std.specs.List.{sum_by}
 use Rattle.std.specs.Ordering.{int_eq}
 use Rattle.std.proofs.lemmas.Int.{ints, clamps}
-use Rattle.std.proofs.lemmas.Bool.{cases_Bool, cases_cond}
+use Rattle.std.proofs.lemmas.Bool.{cases_cond}
 use Rattle.std.proofs.lemmas.Bool.Decides.{Decides-int_eq}
 use Rattle.std.proofs.lemmas.List.Sums.{sum_by-cons}
 use Rattle.lists.specs.Numbers.{sum_of, least_of, greatest_of, HaveSameItems}
 use Rattle.lists.proofs.Folds.{sum_of-append}
-use Rattle.lists.proofs.Members.{IsIn}
-use Rattle.lists.proofs.Weights.{length-sum_by}
+use Rattle.lists.proofs.Members.{IsIn, in_at, in_from_contains, contains_from_in}
+use Rattle.lists.proofs.SameItems.{in-same}
 
 -- ---- the sum
 
@@ -39,34 +39,13 @@ sum_of-sum_by (x ∷ xs) =
     let one : sum_of (x ∷ []) ≡ x = omega (arith, ints) in
     split ∙ omega (arith, ints, rest, here, up, down, one)
 
--- ---- which numbers there are
-
-abbrev is_number : ℤ → ℤ → ℕ
-is_number x y = cond (int_eq y x) 1 0
-
-weighs_here : (x y : ℤ) → y ≡ x → is_number x y ≡ 1
-weighs_here x y e = ap (λ b. cond b 1 0) ((Decides-int_eq y x).1 e)
-
-weighs_some : (x : ℤ) (ys : List ℤ) → IsIn x ys → 0 < sum_by (is_number x) ys
-weighs_some x [] h = elim h [ ]
-weighs_some x (y ∷ ys) (inl e) = let first = weighs_here x y e in let all = sum_by-cons (is_number x) y ys in omega (arith, first, all)
-weighs_some x (y ∷ ys) (inr h) = let rest = weighs_some x ys h in let all = sum_by-cons (is_number x) y ys in omega (arith, rest, all)
-
-in_from_weight : (x : ℤ) (ys : List ℤ) → 0 < sum_by (is_number x) ys → IsIn x ys
-in_from_weight x [] h = absurd (omega arith)
-in_from_weight x (y ∷ ys) h =
-    elim (cases_Bool (int_eq y x)) [
-      | inl e ↦ inl ((Decides-int_eq y x).0 e)
-      | inr e ↦ (
-          let none : is_number x y ≡ 0 = ap (λ b. cond b 1 0) e in
-          let all = sum_by-cons (is_number x) y ys in inr (in_from_weight x ys (omega (arith, none, all)))
-          )
-    ]
-
-same_in : (xs ys : List ℤ) → HaveSameItems xs ys → (x : ℤ) → IsIn x xs → IsIn x ys
-same_in xs ys same x h = in_from_weight x ys (subst (λ n. 0 < n) (same (is_number x)) (weighs_some x xs h))
+pub sum_of-same : (xs ys : List ℤ) → HaveSameItems xs ys → sum_of xs ≡ sum_of ys
+sum_of-same xs ys same = sum_of-sum_by xs ∙ (λ i. pos (same above_zero i) -ℤ pos (same below_zero i)) ∙ sym (sum_of-sum_by ys)
 
 -- ---- the least and the greatest
+
+same_in : (xs ys : List ℤ) → HaveSameItems xs ys → (x : ℤ) → IsIn x xs → IsIn x ys
+same_in = in-same int_eq Decides-int_eq
 
 least_in : (x : ℤ) (xs : List ℤ) → IsIn (fold int_min x xs) (x ∷ xs)
 least_in x [] = inl refl
@@ -112,10 +91,36 @@ ends-same (x ∷ xs) (y ∷ ys) long same =
     let greatest : fold int_max x xs ≡ fold int_max y ys = omega (arith, ints, c, d) in
     (ap Some least, ap Some greatest)
 
--- ---- all of them
+-- the least is the one among the numbers that is at most each of them
+pub least-is : (xs : List ℤ) (m : ℤ) → (least_of xs ≡ Some m) ↔ (Contains xs m × All (λ x. m ≤ℤ x) xs)
+least-is [] m = ((λ e. absurd (cc)), (λ h. absurd (omega (arith, h.0.1))))
+least-is (x ∷ xs) m = (
+  (λ e.
+      let is : fold int_min x xs ≡ m = cc in (
+        contains_from_in (x ∷ xs) m (subst (λ y. IsIn y (x ∷ xs)) is (least_in x xs)),
+        (λ k d below. subst (λ y. y ≤ℤ get_or (x ∷ xs) k d) is (least_below x xs (get_or (x ∷ xs) k d) (in_at (x ∷ xs) k d below))),
+      )),
+  (λ h.
+      let least = fold int_min x xs in
+      let there = contains_from_in (x ∷ xs) least (least_in x xs) in
+      let below : m ≤ℤ least = subst (λ y. m ≤ℤ y) there.2 (h.1 there.0 least there.1) in
+      let above = least_below x xs m (in_from_contains (x ∷ xs) m h.0) in
+      let same : least ≡ m = omega (arith, ints, below, above) in ap Some same),
+)
 
-pub length-same : {X : Type 0} (xs ys : List X) → HaveSameItems xs ys → length xs ≡ length ys
-length-same xs ys same = sym (length-sum_by xs) ∙ same (λ _. 1) ∙ length-sum_by ys
-
-pub sum_of-same : (xs ys : List ℤ) → HaveSameItems xs ys → sum_of xs ≡ sum_of ys
-sum_of-same xs ys same = sum_of-sum_by xs ∙ (λ i. pos (same above_zero i) -ℤ pos (same below_zero i)) ∙ sym (sum_of-sum_by ys)
+-- the greatest is the one among the numbers that is at least each of them
+pub greatest-is : (xs : List ℤ) (m : ℤ) → (greatest_of xs ≡ Some m) ↔ (Contains xs m × All (λ x. x ≤ℤ m) xs)
+greatest-is [] m = ((λ e. absurd (cc)), (λ h. absurd (omega (arith, h.0.1))))
+greatest-is (x ∷ xs) m = (
+  (λ e.
+      let is : fold int_max x xs ≡ m = cc in (
+        contains_from_in (x ∷ xs) m (subst (λ y. IsIn y (x ∷ xs)) is (greatest_in x xs)),
+        (λ k d below. subst (λ y. get_or (x ∷ xs) k d ≤ℤ y) is (greatest_above x xs (get_or (x ∷ xs) k d) (in_at (x ∷ xs) k d below))),
+      )),
+  (λ h.
+      let greatest = fold int_max x xs in
+      let there = contains_from_in (x ∷ xs) greatest (greatest_in x xs) in
+      let above : greatest ≤ℤ m = subst (λ y. y ≤ℤ m) there.2 (h.1 there.0 greatest there.1) in
+      let below = greatest_above x xs m (in_from_contains (x ∷ xs) m h.0) in
+      let same : greatest ≡ m = omega (arith, ints, below, above) in ap Some same),
+)
