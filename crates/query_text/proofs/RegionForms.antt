@@ -17,7 +17,7 @@ use Rattle.query_text.specs.Form.{where_true, every, all_differ, is_object_of, n
 use Rattle.query_text.specs.Locations as location
 use Rattle.query_text.specs.declared.location.Field.{Field}
 use Rattle.query_text.specs.declared.location.Part.{Part}
-use Rattle.query_text.specs.Walk.{◌>>=◌, or_refuse, refuse_if, walk_each, walk_dimension, walk_dimensions, then_padded, walk_region, region_keys, next_number, shown_count}
+use Rattle.query_text.specs.Walk.{◌>>=◌, or_refuse, refuse_if, walk_each, walk_dimension, walk_dimensions, then_padded, walk_region, region_keys, next_number}
 use Rattle.query_text.proofs.Agrees.{Agrees, agrees_none, agrees_form, agrees_map, agrees_two}
 use Rattle.query_text.proofs.ListForms.{then-then, then-where, all_prefix, agrees_list, agrees_every}
 use Rattle.query_text.proofs.Differing.{differs, all_differ-push, all_differ_breaks}
@@ -34,11 +34,11 @@ module _ (rank n : ℕ) (variables : List Variable) (rest region : ℕ) (at : Lo
 
   agrees_padded : (ds : List Data) (b : Bool)
       → Agrees (All (IsExpr n)) (where_true b (option_map (λ exprs. exprs ++ padding) (every (expr_form variables) ds)))
-      ((refuse_if (not b) (QueryRefusal.Dimensions region (shown_count (length ds))) >>= (λ _. walk_each (walk_dimension variables at) ds)) >>= (λ exprs. Ok (exprs ++ padding)))
+      ((refuse_if (not b) (QueryRefusal.Dimensions region (length ds)) >>= (λ _. walk_each (walk_dimension variables at) ds)) >>= (λ exprs. Ok (exprs ++ padding)))
   agrees_padded ds true =
       agrees_map (All (IsExpr n)) (All (IsExpr n)) (every (expr_form variables) ds) (walk_each (walk_dimension variables at) ds) (λ exprs. exprs ++ padding)
       (agrees_every (expr_form variables) (walk_dimension variables at) (IsExpr n) (λ before d. agrees_expr n variables (location.dimension at (next_number before)) d) ds) (λ exprs e all. all_prefix (IsExpr n) exprs padding all)
-  agrees_padded ds false = agrees_none (All (IsExpr n)) (QueryRefusal.Dimensions region (shown_count (length ds)))
+  agrees_padded ds false = agrees_none (All (IsExpr n)) (QueryRefusal.Dimensions region (length ds))
 
   agrees_dimensions : (key : List ℕ) (d : Data) → Agrees (All (IsExpr n)) (dimensions_form rank variables rest key d) (then_padded rank rest (walk_dimensions rank variables region at (get key d)))
   unfolding padding dimensions_form walk_dimensions
@@ -46,7 +46,7 @@ module _ (rank n : ℕ) (variables : List Variable) (rest region : ℕ) (at : Lo
     where
       by : (o : Option (List Data))
           → Agrees (All (IsExpr n)) (option_and_then (λ ds. where_true (length ds == rank) (option_map (λ exprs. exprs ++ padding) (every (expr_form variables) ds))) o)
-          ((or_refuse (QueryRefusal.Shape at) o >>= (λ ds. refuse_if (not (length ds == rank)) (QueryRefusal.Dimensions region (shown_count (length ds))) >>= (λ _. walk_each (walk_dimension variables at) ds))) >>= (λ exprs. Ok (exprs ++ padding)))
+          ((or_refuse (QueryRefusal.Shape at) o >>= (λ ds. refuse_if (not (length ds == rank)) (QueryRefusal.Dimensions region (length ds)) >>= (λ _. walk_each (walk_dimension variables at) ds))) >>= (λ exprs. Ok (exprs ++ padding)))
       by None = agrees_none (All (IsExpr n)) (QueryRefusal.Shape at)
       by (Some ds) = agrees_padded ds (length ds == rank)
 

@@ -1,6 +1,6 @@
 -- The walk over a query, step by step. Each step gives what it read, or the refusal that ends the walk.
 -- The contracts of this crate and of `search_run` use it.
-use Rattle.std.specs.Prelude.{ℕ, ◌+◌, ◌-◌, ◌^◌, min, ℤ, pos, nat_lt, nat_le, Bool, not, ◌==◌, List, [], ◌∷◌, ◌++◌, length, map, replicate, Option, Some, None, is_some, option_and_then, Result, Ok, Err, if◌then◌else◌, codes, ⊤}
+use Rattle.std.specs.Prelude.{ℕ, ◌+◌, ◌-◌, ◌^◌, ℤ, pos, nat_lt, nat_le, Bool, not, ◌==◌, List, [], ◌∷◌, ◌++◌, length, map, replicate, Option, Some, None, is_some, option_and_then, Result, Ok, Err, if◌then◌else◌, codes, ⊤}
 use Rattle.std.specs.Option.{option_map_or}
 use Rattle.serde_json.specs.Data.{Data, Num}
 use Rattle.serde_json.specs.Find.{get, as_number, as_str, as_object}
@@ -171,15 +171,11 @@ region_keys = codes "name" ∷ codes "at" ∷ codes "length" ∷ []
 abbrev pub walk_dimension : List Variable → Location → List Expr → Data → Walked Expr
 walk_dimension variables at before d = walk_expr variables (location.dimension at (next_number before)) d
 
--- a number of items in 32 bits. A query has too few bytes to reach the end of this range
-abbrev pub shown_count : ℕ → ℕ
-shown_count n = min n (2 ^ 32 - 1)
-
 -- an expression for each dimension, in the region of this number
 unfoldable pub walk_dimensions : ℕ → List Variable → ℕ → Location → Option Data → Walked (List Expr)
 walk_dimensions rank variables region at found =
     or_refuse (Shape at) (option_and_then items_in found) >>= (λ ds.
-    refuse_if (not (length ds == rank)) (Dimensions region (shown_count (length ds))) >>= (λ _.
+    refuse_if (not (length ds == rank)) (Dimensions region (length ds)) >>= (λ _.
     walk_each (walk_dimension variables at) ds))
 
 -- and then this constant in each dimension that is not used

@@ -22,7 +22,7 @@ pub enum QueryRefusal {
     Unbound { location: Location },
     /// The `at` or `length` of a region does not have one item for each dimension of the array. `region` counts from
     /// 1, and `found` is the number of items.
-    Dimensions { region: u32, found: u32 },
+    Dimensions { region: u32, found: u64 },
     /// A list there has too many items.
     TooMany { location: Location },
     /// It has more than 2^62 points.

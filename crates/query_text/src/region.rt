@@ -72,7 +72,7 @@ fn read_dimensions(
     if items.len() != rank as usize {
         return Err(QueryRefusal::Dimensions {
             region,
-            found: u32::try_from(items.len()).unwrap_or(u32::MAX),
+            found: items.len() as u64,
         });
     }
     read_each_dimension(variables, items, at, rest)

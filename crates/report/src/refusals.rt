@@ -130,7 +130,7 @@ fn query_refusal_text(refusal: QueryRefusal) -> Line
         QueryRefusal::Repeated { location } => line_with_location(b"7 Repeated ", location),
         QueryRefusal::Unbound { location } => line_with_location(b"8 Unbound ", location),
         QueryRefusal::Dimensions { region, found } => {
-            line_with_numbers(b"9 Dimensions ", region as u64, found as u64)
+            line_with_numbers(b"9 Dimensions ", region as u64, found)
         }
         QueryRefusal::TooMany { location } => line_with_location(b"10 TooMany ", location),
         QueryRefusal::TooLarge => Line::from_text(b"11 TooLarge"),
