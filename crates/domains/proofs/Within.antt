@@ -1,6 +1,6 @@
--- Boxes within each other: an order with its width, and the points of such boxes.
--- Used by the laws on boxes within each other.
-use Rattle.std.proofs.Common.{◌≡◌, ◌↔◌, ◌≤◌, true, ◌&&◌, int_le, List, [], ◌∷◌, map, filter, Contains, refl, ap, arith, ℤ, ◌≤ℤ◌}
+-- Boxes within each other: an order with its width, and the points of such boxes. Lists of points up to order.
+-- Used by the laws on boxes within each other and on points up to order.
+use Rattle.std.proofs.Common.{◌≡◌, ◌↔◌, ◌≤◌, true, ◌&&◌, int_le, List, [], ◌∷◌, map, filter, AllPairs, Contains, refl, ap, arith, ℤ, ◌≤ℤ◌}
 use Rattle.std.specs.List.{sum_by}
 use Rattle.std.proofs.lemmas.Bool.{and_parts, and_from}
 use Rattle.std.proofs.lemmas.Cmp.{lists_total, int_cmp_total, tied_itself}
@@ -12,9 +12,12 @@ use Rattle.domains.specs.Values.{HasValue, size_of}
 use Rattle.domains.specs.VarBoxes.{HaveValues, points_in, lowest}
 use Rattle.domains.specs.Within.{LieWithin, IsBoxWithin, width_of}
 use Rattle.lists.proofs.Members.{IsIn, in_from_contains, contains_from_in, in_filter, in_filter_cases}
-use Rattle.lists.proofs.Rising.{Rises, rises_filter, rises-equal}
+use Rattle.lists.specs.Numbers.{HaveSameItems}
+use Rattle.lists.proofs.Rising.{Rises, pairs_rises, rises_filter, rises-equal}
+use Rattle.lists.proofs.SameItems.{in-same, same-turned}
 use Rattle.domains.proofs.Values.{size_is, size_some}
 use Rattle.domains.proofs.PointsOfDomains.{in_points, in_points_cases, rises_points}
+use Rattle.domains.proofs.PointOrder.{eq-same}
 use Rattle.domains.proofs.Halves.{contains_cases, contains_point}
 use Rattle.domains.proofs.HalvesOrder.{lowest_in}
 
@@ -188,3 +191,11 @@ points_kept a b h =
     let c = contains_from_in (points_in a) p i in
     in_filter (is_in_box a) (points_in b) p (in_from_contains (points_in b) p (within_points a b p h c)) (is_in_box-true a p (contains_cases a p c)))
     (λ p i. let k = in_filter_cases (is_in_box a) (points_in b) p i in in_both a b p k.0 (true-is_in_box a p k.1))
+
+-- ---- points up to order
+
+-- lists of points that rise strictly and have the same points
+pub rising_points-equal : (ps qs : List Point) → AllPairs ComesBefore ps → AllPairs ComesBefore qs → HaveSameItems ps qs → ps ≡ qs
+rising_points-equal ps qs first second same =
+    rises-equal ComesBefore not_before_itself before_through ps qs (pairs_rises ComesBefore ps first) (pairs_rises ComesBefore qs second)
+    (in-same _ eq-same ps qs same) (in-same _ eq-same qs ps (same-turned ps qs same))

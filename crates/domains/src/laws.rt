@@ -1,11 +1,12 @@
 //! What boxes, halves, strips and points are, in the words of the subject. Each law is the contract of a
 //! function that does nothing. `query_model` calls those that its own laws and the box of a query need.
 
-ghost use Rattle.std.specs.Prelude.{◌≡◌, ◌↔◌, ◌^◌, ◌+◌, ◌<◌, ◌≤◌, ℕ, ℤ, List, length, true, AllPairs, Contains, flat_map, filter, All};
+ghost use Rattle.std.specs.Prelude.{◌≡◌, ◌↔◌, ◌^◌, ◌+◌, ◌<◌, ◌≤◌, ℕ, ℤ, List, length, true, AllPairs, Contains, flat_map, filter, map, Bool, ◌++◌, IsPermutation, All};
 ghost use Rattle.std.specs.Ordering.{int_cmp};
 ghost use Rattle.std.specs.declared.cmp.Ordering.TheVariants.{Equal};
 ghost use Rattle.std.specs.Cmp.{IsTotalOrder};
 ghost use Rattle.std.specs.Cmp.Lexicographic.{slice_cmp};
+ghost use Rattle.lists.specs.Numbers.{HaveSameItems};
 ghost use Rattle.domains.specs.declared.dom.Dom.{Dom as DomOf};
 ghost use Rattle.domains.specs.Points.{points_of, IsInBox, is_in_box, ComesBefore, AllComeBefore, point_cmp};
 ghost use Rattle.domains.specs.VarBoxes.{IsBox, points_in, size_product, box_from};
@@ -70,6 +71,22 @@ pub fn boxes_within_are_narrower()
 pub fn boxes_within_have_points_within()
     ensures each { (a b : List DomOf) → IsBox a → IsBoxWithin a b ↔ ((p : List ℤ) → Contains (points_in a) p → Contains (points_in b) p) }
     ensures order { (a b : List DomOf) → IsBoxWithin a b → points_in a ≡ filter (is_in_box a) (points_in b) }
+{}
+
+/// Lists of points that are equal up to order. Appending, filtering and mapping keep this. It means that each point is in
+/// both lists as often, by `==` of points. Such lists are equal if both rise strictly. A permutation of a list has its
+/// points.
+pub fn points_are_equal_up_to_order()
+    ensures reflexive { (ps : List (List ℤ)) → HaveSameItems ps ps }
+    ensures symmetric { (ps qs : List (List ℤ)) → HaveSameItems ps qs → HaveSameItems qs ps }
+    ensures transitive { (ps qs rs : List (List ℤ)) → HaveSameItems ps qs → HaveSameItems qs rs → HaveSameItems ps rs }
+    ensures appended { (ps qs rs ss : List (List ℤ)) → HaveSameItems ps qs → HaveSameItems rs ss → HaveSameItems (ps ++ rs) (qs ++ ss) }
+    ensures filtered { (test : List ℤ → Bool) (ps qs : List (List ℤ)) → HaveSameItems ps qs → HaveSameItems (filter test ps) (filter test qs) }
+    ensures mapped { (f : List ℤ → List ℤ) (ps qs : List (List ℤ)) → HaveSameItems ps qs → HaveSameItems (map f ps) (map f qs) }
+    ensures counted { (ps qs : List (List ℤ)) → HaveSameItems ps qs
+        ↔ ((p : List ℤ) → length (filter (⟦<Point as PartialEq>⟧.eq p) ps) ≡ length (filter (⟦<Point as PartialEq>⟧.eq p) qs)) }
+    ensures rising { (ps qs : List (List ℤ)) → AllPairs ComesBefore ps → AllPairs ComesBefore qs → HaveSameItems ps qs → ps ≡ qs }
+    ensures permuted { (ps qs : List (List ℤ)) → IsPermutation ps qs → HaveSameItems ps qs }
 {}
 
 /// The halves of a box share no point and lose none.

@@ -1,7 +1,7 @@
 -- Lists in which each element is related to all that follow it.
 -- Used by the proofs of `domains`.
 use Rattle.std.proofs.Common.{◌≡◌, zero, suc, Bool, true, false, cond, inl, inr, List, [], ◌∷◌, ◌++◌, get_or, map, filter, refl, sym, subst, ◌∙◌, arith, AllPairs}
-use Rattle.lists.proofs.Members.{IsIn, in_at, in_append_cases, in_map_cases, in_filter_cases}
+use Rattle.lists.proofs.Members.{IsIn, contains_from_in, in_at, in_append_cases, in_map_cases, in_filter_cases}
 
 -- each element is related to all that follow it
 abbrev pub Rises : {X : Type 0} → (X → X → Type 0) → List X → Type 0
@@ -14,6 +14,13 @@ rises_pairs R (x ∷ xs) r zero zero d below within = absurd (omega arith)
 rises_pairs R (x ∷ xs) r zero (suc j) d below within = r.0 (get_or xs j d) (in_at xs j d (omega arith))
 rises_pairs R (x ∷ xs) r (suc i) zero d below within = absurd (omega arith)
 rises_pairs R (x ∷ xs) r (suc i) (suc j) d below within = rises_pairs R xs r.1 i j d (omega arith) (omega arith)
+
+pub pairs_rises : {X : Type 0} (R : X → X → Type 0) (xs : List X) → AllPairs R xs → Rises R xs
+pairs_rises R [] h = tt
+pairs_rises R (x ∷ xs) h = (
+  (λ y i. let c = contains_from_in xs y i in subst (R x) c.2 (h 0 (suc c.0) y (omega arith) (omega (arith, c.1)))),
+  pairs_rises R xs (λ i j d below within. h (suc i) (suc j) d (omega (arith, below)) (omega (arith, within))),
+)
 
 pub rises_append : {X : Type 0} (R : X → X → Type 0) (xs ys : List X) → Rises R xs → Rises R ys → ((x y : X) → IsIn x xs → IsIn y ys → R x y) → Rises R (xs ++ ys)
 rises_append R [] ys r s f = s
