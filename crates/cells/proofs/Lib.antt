@@ -1,2 +1,3 @@
 pub mod Records
 pub mod Rectangles
+pub mod Cutting

@@ -1,6 +1,6 @@
 -- Records of two lists of numbers, and of numbers in another order.
--- Used by the proofs of `merge`, `record_of_both_is_merged`, `record_of_by_weighings` and `record_of_is_free_of_order`.
-use Rattle.std.proofs.Common.{◌≡◌, ◌+◌, ◌*◌, ◌^◌, eqb, List, [], ◌∷◌, ◌++◌, length, ℤ, pos, ◌+ℤ◌, refl, sym, ap, ◌∙◌, arith, ◌==◌, if◌then◌else◌, fold, unwrap_or, append-nil, length-append, IsPermutation}
+-- Used by the proofs of `merge`, `record_of_both_is_merged`, `record_of_parts_is_merged`, `record_of_by_weighings` and `record_of_is_free_of_order`.
+use Rattle.std.proofs.Common.{◌≡◌, ℕ, flat_map, append_assoc, ◌+◌, ◌*◌, ◌^◌, eqb, List, [], ◌∷◌, ◌++◌, length, ℤ, pos, ◌+ℤ◌, refl, sym, ap, ◌∙◌, arith, ◌==◌, if◌then◌else◌, fold, unwrap_or, append-nil, length-append, IsPermutation}
 use Rattle.std.specs.Int.{int_min, int_max}
 use Rattle.std.proofs.lemmas.Int.{ints}
 use Rattle.std.proofs.lemmas.Bool.{cond_both, eqb-true, eqb-false}
@@ -53,6 +53,18 @@ record_of-append (x ∷ xs) (y ∷ ys) =
     let whole : record_of ((x ∷ xs) ++ y ∷ ys) ≡ record { least = int_min (fold int_min x xs) (fold int_min y ys); greatest = int_max (fold int_max x xs) (fold int_max y ys); sum = sum_of (x ∷ xs) +ℤ sum_of (y ∷ ys); count = length (x ∷ xs) + length (y ∷ ys) } =
     (λ i. record { least = least i; greatest = greatest i; sum = total i; count = count i }) in
     whole ∙ sym (merged-both (record_of (x ∷ xs)) (record_of (y ∷ ys)) (λ e. absurd (omega (arith, e))) (λ e. absurd (omega (arith, e))))
+
+-- ---- several lists
+
+record_of-more : (part : ℕ → List ℤ) (xs : List ℤ) (parts : List ℕ) → record_of (xs ++ flat_map part parts) ≡ fold (λ all n. merged all (record_of (part n))) (record_of xs) parts
+record_of-more part xs [] = ap record_of (append-nil xs)
+record_of-more part xs (n ∷ ns) =
+    ap record_of (sym (append_assoc xs (part n) (flat_map part ns)))
+    ∙ record_of-more part (xs ++ part n) ns
+    ∙ ap (λ r. fold (λ all m. merged all (record_of (part m))) r ns) (record_of-append xs (part n))
+
+pub record_of-flat_map : (part : ℕ → List ℤ) (parts : List ℕ) → record_of (flat_map part parts) ≡ fold (λ all n. merged all (record_of (part n))) (record_of []) parts
+record_of-flat_map part parts = record_of-more part [] parts
 
 -- ---- another order
 

@@ -17,6 +17,6 @@ mod side;
 pub use crate::cell::{Cell, EMPTY};
 pub use crate::record::{NOTHING, Record, merge};
 pub use crate::rect::Rect;
-pub use crate::region::is_proper;
+pub use crate::region::{is_proper, rect_of};
 pub use crate::shape::Shape;
 pub use crate::side::Side;

@@ -1,7 +1,9 @@
 //! Rectangles of cells.
 //! Used by `layouts`.
-ghost use Rattle.std.specs.Prelude.{◌≡◌, ◌<◌, ◌-◌, ◌↔◌, ◌^◌, IsTrue, map, zip};
-ghost use Rattle.cells.specs.Rects.{area_of, meet_of, rect_contains, LiesInside};
+ghost use Rattle.std.specs.Prelude.{◌≡◌, ◌<◌, ◌-◌, ◌↔◌, ◌^◌, pos, IsTrue, map, zip};
+ghost use Rattle.cells.specs.Rects.{area_of, meet_of, rect_contains, sides_of, LiesInside};
+
+use crate::Side;
 
 /// The cells with coordinates from `from` up to but not including `to`, in each of three dimensions. It has no cells if
 /// some `from` is not below its `to`.
@@ -37,6 +39,15 @@ impl Rect {
         }
     }
 
+    /// Its side in each dimension, as those of a region.
+    pub fn sides(&self) -> [Side; 3]
+        ensures { result ≡ sides_of self.now }
+    {
+        let [f, f_2, f_3] = self.from;
+        let [t, t_2, t_3] = self.to;
+        [side(f, t), side(f_2, t_2), side(f_3, t_3)]
+    }
+
     /// Whether the cell with these coordinates lies in it.
     pub fn contains(&self, at: [u32; 3]) -> bool
         ensures { result ≡ rect_contains self.now at }
@@ -68,7 +79,7 @@ impl Rect {
     }
 
     /// Whether it has no cells.
-    fn is_empty(&self) -> bool
+    pub fn is_empty(&self) -> bool
         ensures { IsTrue result ↔ area_of self.now ≡ 0 }
     {
         let [a, b, c] = self.lengths();
@@ -84,5 +95,15 @@ impl Rect {
         let [t, t_2, t_3] = self.to;
         let [u, u_2, u_3] = other.to;
         g <= f && t <= u && g_2 <= f_2 && t_2 <= u_2 && g_3 <= f_3 && t_3 <= u_3
+    }
+}
+
+/// The side from one coordinate up to but not including another.
+fn side(from: u32, to: u32) -> Side
+    ensures { result ≡ record { from = pos from; to = pos to } }
+{
+    Side {
+        from: i64::from(from),
+        to: i64::from(to),
     }
 }

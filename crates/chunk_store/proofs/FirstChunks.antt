@@ -1,15 +1,16 @@
 -- The numbers of the first chunks of an array, one chunk after the other.
 -- Used by the proofs of `Summed`, `chunks_share_no_cell` and `records_of_chunks_make_the_array`.
-use Rattle.std.proofs.Common.{◌≡◌, ℕ, zero, suc, ◌+◌, ◌≤◌, ◌<◌, nat_lt, ◌==◌, false, cond, ◌&&◌, ◌||◌, inl, inr, List, [], ◌∷◌, ◌++◌, length, get_or, filter, filter_map, fold, ℤ, refl, sym, ap, ◌∙◌, arith}
-use Rattle.std.specs.List.{range_with_len, sum_by}
-use Rattle.std.proofs.lemmas.Bool.{and_left, and_right, lt-ltb, le-ltb, ltb-true, ltb-false, eqb-true, eqb-false, ne_eqb, cases_Bool}
+use Rattle.std.proofs.Common.{◌≡◌, ℕ, zero, suc, ◌+◌, ◌≤◌, ◌<◌, nat_lt, ◌==◌, List, [], ◌++◌, length, get_or, filter_map, fold, ℤ, sym, ap, ◌∙◌, arith}
+use Rattle.std.specs.List.{range_with_len}
+use Rattle.std.proofs.lemmas.Bool.{lt-ltb, eqb-true}
 use Rattle.std.proofs.lemmas.List.Sums.{sum_by-append}
 use Rattle.grids.specs.Coordinates.{coordinates_of}
 use Rattle.cells.specs.Cells.{cell_value, empty_cell}
 use Rattle.layouts.specs.Chunks.{chunk_cells, chunk_count, cell_chunk, cell_index}
 use Rattle.layouts.specs.declared.numbers.LayoutNumbers.{LayoutNumbers}
 use Rattle.lists.specs.Numbers.{product, HaveSameItems}
-use Rattle.lists.proofs.Weights.{one_more, length-sum_by, weight_at, weight-filter_map}
+use Rattle.lists.proofs.Shares.{not_below, weight-below_more}
+use Rattle.lists.proofs.Weights.{length-sum_by, weight_at, weight-filter_map}
 use Rattle.chunk_store.specs.FirstChunks.{cells_of_chunks, places_of_chunk, places_of_first_chunks, numbers_at, chunk_numbers, numbers_of_chunk, numbers_of_first_chunks}
 use Rattle.cells.specs.Records.{record_of, merged}
 use Rattle.layouts.specs.Rules.{IsLayout}
@@ -22,46 +23,11 @@ use Rattle.lists.proofs.Ranges.{in_range, length-range}
 use Rattle.grids.proofs.TileIndices.{index_in_tile-below}
 use Rattle.grids.proofs.Tilings.{tile_of-below}
 
--- ---- the places of one more chunk
-
-later : (c m : ℕ) → m ≤ c → (c ≡ m → ⊥) → m + 1 ≤ c
-later c m low apart = grind arith
-
-below_more : (c m : ℕ) → nat_lt c (m + 1) ≡ (nat_lt c m || (c == m))
-below_more c m =
-    elim (cases_Bool (nat_lt c m)) [
-      | inl less ↦ let small = ltb-true c m less in lt-ltb c (m + 1) (omega (arith, small)) ∙ sym (λ i. less i || (c == m))
-      | inr other ↦ (
-          elim (cases_Bool (c == m)) [
-            | inl even ↦ let same = eqb-true c m even in lt-ltb c (m + 1) (omega (arith, same)) ∙ sym (λ i. other i || even i)
-            | inr odd ↦ le-ltb c (m + 1) (later c m (ltb-false c m other) (eqb-false c m odd)) ∙ sym (λ i. other i || odd i)
-          ]
-          )
-    ]
-
-not_both : (c m : ℕ) → (nat_lt c m && (c == m)) ≡ false
-not_both c m =
-    elim (cases_Bool (nat_lt c m)) [
-      | inl less ↦ let small = ltb-true c m less in and_right (nat_lt c m) (c == m) (ne_eqb c m (λ e. absurd (omega (arith, small, e))))
-      | inr other ↦ and_left (nat_lt c m) (c == m) other
-    ]
-
-not_below : (c : ℕ) → nat_lt c 0 ≡ false
-not_below c = le-ltb c 0 (omega arith)
-
-places-split : (weight at : ℕ → ℕ) (m : ℕ) (ks : List ℕ)
-    → sum_by weight (filter (λ k. nat_lt (at k) (m + 1)) ks) ≡ sum_by weight (filter (λ k. nat_lt (at k) m) ks) + sum_by weight (filter (λ k. at k == m) ks)
-places-split weight at m [] = refl
-places-split weight at m (k ∷ ks) =
-    let both = filter (λ k. nat_lt (at k) (m + 1)) ks in
-    ap (λ b. sum_by weight (cond b (k ∷ both) both)) (below_more (at k) m)
-    ∙ one_more weight k both (filter (λ k. nat_lt (at k) m) ks) (filter (λ k. at k == m) ks) (nat_lt (at k) m) (at k == m) (not_both (at k) m) (places-split weight at m ks)
-
 -- ---- how many places there are
 
 pub length-places-more : (l : LayoutNumbers) (m : ℕ) → length (places_of_first_chunks l (m + 1)) ≡ length (places_of_first_chunks l m) + length (places_of_chunk l m)
 length-places-more l m =
-    sym (length-sum_by (places_of_first_chunks l (m + 1))) ∙ places-split (λ _. 1) (cell_chunk l) m (range_with_len 0 (product l.extents))
+    sym (length-sum_by (places_of_first_chunks l (m + 1))) ∙ weight-below_more (λ _. 1) (cell_chunk l) m (range_with_len 0 (product l.extents))
     ∙ (λ i. length-sum_by (places_of_first_chunks l m) i + length-sum_by (places_of_chunk l m) i)
 
 pub length-places-le : (l : LayoutNumbers) (m : ℕ) → length (places_of_first_chunks l m) ≤ product l.extents
@@ -75,7 +41,7 @@ pub numbers-weights : (l : LayoutNumbers) (f : ℕ → ℕ → Cell) (m : ℕ) �
 numbers-weights l f m weight =
     let h = λ (k : ℕ). cell_value (f (cell_chunk l k) (cell_index l k)) in
     weight-filter_map weight h (places_of_first_chunks l (m + 1))
-    ∙ places-split (weight_at weight h) (cell_chunk l) m (range_with_len 0 (product l.extents))
+    ∙ weight-below_more (weight_at weight h) (cell_chunk l) m (range_with_len 0 (product l.extents))
     ∙ (λ i. sym (weight-filter_map weight h (places_of_first_chunks l m)) i + sym (weight-filter_map weight h (places_of_chunk l m)) i)
     ∙ sym (sum_by-append weight (numbers_of_first_chunks l f m) (numbers_of_chunk l f m))
 

@@ -18,5 +18,5 @@ mod summary;
 pub use crate::array::{CellsFault, read_cells};
 pub use crate::frame::Frame;
 pub use crate::loading::load;
-pub use crate::record::chunk_record;
+pub use crate::record::{chunk_record, shared_record};
 pub use crate::summary::array_record;

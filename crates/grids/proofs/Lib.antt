@@ -6,3 +6,4 @@ pub mod Regions
 pub mod ThreeDimensions
 pub mod TileIndices
 pub mod Tilings
+pub mod Meeting

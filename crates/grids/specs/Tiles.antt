@@ -1,6 +1,6 @@
 -- Tiles: rectangles of one size, numbered row-major, that cover an array and are cut to it. Chunks are tiles, and the blocks of each level are tiles too.
 -- Used by `layouts`, `chunk_copies` and `chunk_store`, and in this crate.
-use Rattle.std.specs.Prelude.{◌≡◌, ℕ, ◌+◌, ◌-◌, ◌*◌, ◌/◌, ◌%◌, ◌≤◌, min, List, map, zip}
+use Rattle.std.specs.Prelude.{◌≡◌, ℕ, ◌+◌, ◌-◌, ◌*◌, ◌/◌, ◌%◌, ◌≤◌, min, nat_lt, List, map, zip, if◌then◌else◌}
 use Rattle.std.specs.List.{AllZip}
 use Rattle.lists.specs.Numbers.{product}
 use Rattle.grids.specs.Coordinates.{coordinates_of, index_of}
@@ -45,3 +45,17 @@ tile_from extents lengths t = map (λ (q, m). q * m) (zip (tile_coordinates exte
 abbrev pub tile_to : List ℕ → List ℕ → ℕ → List ℕ
 tile_to extents lengths t =
     map (λ (n, b). min n b) (zip extents (map (λ (q, m). q * m + m) (zip (tile_coordinates extents lengths t) lengths)))
+
+-- ---- the tiles that meet a rectangle, by the rectangle's ends
+
+-- in one dimension, the tile after the last one that has a coordinate from f up to t; the first one if there is no such coordinate
+abbrev pub tile_after : ℕ → ℕ → ℕ → ℕ
+tile_after f t length = if nat_lt f t then pieces_of t length else f / length
+
+-- the first of these tiles in each dimension
+abbrev pub first_tiles : List ℕ → List ℕ → List ℕ
+first_tiles froms lengths = map (λ (f, m). f / m) (zip froms lengths)
+
+-- the tile after the last of them in each dimension
+abbrev pub tiles_after : List ℕ → List ℕ → List ℕ → List ℕ
+tiles_after froms tos lengths = map (λ (f, p). tile_after f p.0 p.1) (zip froms (zip tos lengths))

@@ -1,2 +1,3 @@
 pub mod Cuts
 pub mod Layouts
+pub mod Meeting

@@ -1,3 +1,4 @@
 pub mod Chunks
+pub mod Meeting
 pub mod Cuts
 pub mod Rules

@@ -1,15 +1,24 @@
-//! What tiles, blocks and chunks are, in the words of the subject. Each law is the contract of a function that does
-//! nothing.
+//! What tiles, blocks and chunks are, in the words of the subject. Each law is the contract of a function that only
+//! calls other laws.
 //! No code calls them.
-ghost use Rattle.std.specs.Prelude.{◌≡◌, ◌<◌, ◌≤◌, ◌+◌, ℕ, List, length, true, All, None};
-ghost use Rattle.lists.specs.Numbers.{product};
+ghost use Rattle.std.specs.Prelude.{◌≡◌, ◌<◌, ◌≤◌, ◌+◌, ◌↔◌, ◌==◌, ℕ, List, [], length, true, All, None, filter, flat_map, fold};
+ghost use Rattle.std.specs.List.{range_with_len};
+ghost use Rattle.lists.specs.Numbers.{product, HaveSameItems};
 ghost use Rattle.lists.specs.Rules.{first_broken};
 ghost use Rattle.grids.specs.Coordinates.{in_bounds};
 ghost use Rattle.grids.specs.Tiles.{IsTiling, AreMultiples, tile_count, tile_of, tile_from, index_in_tile};
-ghost use Rattle.cells.specs.Rects.{rect_contains, LiesInside};
+ghost use Rattle.cells.specs.Array.{Array, present_cells};
+ghost use Rattle.cells.specs.Records.{record_of, merged};
+ghost use Rattle.cells.specs.Rects.{rect_contains, area_of, meet_of, sides_of, HasDimensions, IsCutTo, LiesInside};
+ghost use Rattle.cells.specs.declared.rect.Rect.{Rect};
 ghost use Rattle.layouts.specs.Chunks.{tile_rect, chunk_count, chunk_rect, chunk_around, block_count, block_rect, block_above};
+ghost use Rattle.layouts.specs.Meeting.{is_meeting, meeting_tiles, shared_numbers, tile_record, block_record, blocks_inside, blocks_in_chunk, IsArrayOf};
 ghost use Rattle.layouts.specs.Rules.{layout_rules, IsLayout};
 ghost use Rattle.layouts.specs.declared.numbers.LayoutNumbers.{LayoutNumbers};
+
+use cells::laws::{
+    record_of_by_weighings, record_of_parts_is_merged, rectangles_are_regions, rectangles_meet,
+};
 
 /// Three dimensions, four levels and every rule kept make a layout. All else that `IsLayout` says follows.
 pub fn rules_make_a_layout()
@@ -83,3 +92,52 @@ pub fn blocks_lie_in_chunks()
     ensures alone { (l : LayoutNumbers) (b n : ℕ) (at : List ℕ) → IsLayout l → b < block_count l 0 → n < chunk_count l →
         rect_contains (block_rect l 0 b) at ≡ true → rect_contains (chunk_rect l n) at ≡ true → n ≡ chunk_around l b }
 {}
+
+/// A tile shares a cell with a rectangle that lies within the array exactly if the tile's coordinates in the grid lie in
+/// `tiles_meeting`.
+pub fn tiles_meet_rectangles()
+    ensures { (extents lengths : List ℕ) (r : Rect) (t : ℕ) → IsTiling extents lengths → HasDimensions (length extents) r → IsCutTo extents r →
+        t < tile_count extents lengths →
+        (0 < area_of (meet_of r (tile_rect extents lengths t))) ↔ (is_meeting extents lengths r t ≡ true) }
+{}
+
+/// The numbers of a rectangle that lies within an array are, up to order, those that it shares with each tile that it
+/// meets. So its record is merged from the records of these parts.
+pub fn tiles_share_out_rectangles()
+    ensures numbers { (a : Array) (lengths : List ℕ) (r : Rect) → IsTiling a.extents lengths → length a.cells ≡ product a.extents →
+        HasDimensions (length a.extents) r → IsCutTo a.extents r →
+        HaveSameItems (present_cells a (sides_of r)) (flat_map (shared_numbers a lengths r) (meeting_tiles a.extents lengths r)) }
+    ensures record { (a : Array) (lengths : List ℕ) (r : Rect) → IsTiling a.extents lengths → length a.cells ≡ product a.extents →
+        HasDimensions (length a.extents) r → IsCutTo a.extents r →
+        record_of (present_cells a (sides_of r)) ≡ fold (λ all t. merged all (record_of (shared_numbers a lengths r t))) (record_of []) (meeting_tiles a.extents lengths r) }
+{
+    rectangles_are_regions();
+    rectangles_meet();
+    record_of_parts_is_merged();
+    record_of_by_weighings();
+}
+
+/// If longer lengths are multiples of shorter ones, the record of a longer tile is merged from the records of the
+/// shorter tiles inside it.
+pub fn tile_records_merge()
+    ensures { (a : Array) (shorter longer : List ℕ) (u : ℕ) → IsTiling a.extents shorter → IsTiling a.extents longer →
+        AreMultiples longer shorter → length a.cells ≡ product a.extents → u < tile_count a.extents longer →
+        tile_record a longer u ≡ fold (λ all t. merged all (tile_record a shorter t)) (record_of [])
+        (filter (λ t. tile_of a.extents longer (tile_from a.extents shorter t) == u) (range_with_len 0 (tile_count a.extents shorter))) }
+{
+    rectangles_are_regions();
+    record_of_parts_is_merged();
+    record_of_by_weighings();
+}
+
+/// The record of a block is merged from the records of the blocks inside it, one level below. The record of a chunk is
+/// merged from the records of the blocks of level 0 inside it.
+pub fn block_records_merge()
+    ensures blocks { (a : Array) (l : LayoutNumbers) (level c : ℕ) → IsLayout l → IsArrayOf l a → level + 1 < l.levels →
+        c < block_count l (level + 1) →
+        block_record a l (level + 1) c ≡ fold (λ all b. merged all (block_record a l level b)) (record_of []) (blocks_inside l level c) }
+    ensures chunks { (a : Array) (l : LayoutNumbers) (n : ℕ) → IsLayout l → IsArrayOf l a → n < chunk_count l →
+        tile_record a l.chunk n ≡ fold (λ all b. merged all (block_record a l 0 b)) (record_of []) (blocks_in_chunk l n) }
+{
+    tile_records_merge();
+}

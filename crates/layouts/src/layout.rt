@@ -2,6 +2,7 @@
 //! Used in this crate by `numbers`, and by `chunk_copies`, `array_text`, `array_file`, `chunk_store` and `search_run`.
 ghost use Rattle.std.specs.Prelude.{◌≡◌, ◌≤◌, ◌<◌, true, Some, None, MatchResult, All, length};
 ghost use Rattle.layouts.specs.Chunks as chunks;
+ghost use Rattle.layouts.specs.Meeting as meeting;
 ghost use Rattle.layouts.specs.Cuts.{AreCuts};
 ghost use Rattle.lists.specs.Numbers.{product};
 ghost use Rattle.grids.specs.Coordinates.{in_bounds};
@@ -146,6 +147,23 @@ impl Layout {
         ensures { result ≡ chunks.chunk_rect self.now n }
     {
         tiles::tile_rect(&self.numbers.extents, &self.numbers.chunk, n)
+    }
+
+    /// The chunks that share a cell with a rectangle, as a rectangle of the chunks' grid. The rectangle has to lie within
+    /// the array.
+    pub fn chunks_meeting(&self, r: &Rect) -> Rect
+        ensures { result ≡ meeting.tiles_meeting self.now.chunk r.now }
+    {
+        tiles::tiles_meeting(&self.numbers.chunk, r)
+    }
+
+    /// The blocks of a level that share a cell with a rectangle, as a rectangle of the level's grid. The rectangle has
+    /// to lie within the array.
+    pub fn blocks_meeting(&self, level: u8, r: &Rect) -> Rect
+        requires { level < self.now.levels }
+        ensures { result ≡ meeting.tiles_meeting (chunks.block_extents self.now level) r.now }
+    {
+        tiles::tiles_meeting(&self.numbers.blocks[level as usize], r)
     }
 
     /// How chunk `n` is cut to the array, dimension by dimension.

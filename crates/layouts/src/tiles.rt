@@ -1,10 +1,11 @@
 //! Tiles: rectangles of one size that cover an array and are cut to it.
 //! Used in this crate by `layout` and `lengths`.
 ghost use Rattle.std.specs.Prelude.{◌≡◌, ◌+◌, ◌*◌, ◌≤◌, ◌<◌, ◌^◌, min, [], ◌∷◌, All, true};
-ghost use Rattle.grids.specs.Tiles.{pieces_of, grid_of, tile_count, tile_of, index_in_tile, tile_coordinates};
+ghost use Rattle.grids.specs.Tiles.{pieces_of, tile_after, grid_of, tile_count, tile_of, index_in_tile, tile_coordinates};
 ghost use Rattle.lists.specs.Numbers.{product};
 ghost use Rattle.grids.specs.Coordinates.{in_bounds};
 ghost use Rattle.layouts.specs.Chunks.{tile_rect};
+ghost use Rattle.layouts.specs.Meeting.{tiles_meeting};
 
 use cells::{Rect, Shape};
 
@@ -61,6 +62,36 @@ pub(crate) fn tile_rect(extents: &[u32; 3], lengths: &[u32; 3], t: u32) -> Rect
     Rect {
         from: [f, f_2, f_3],
         to: [t, t_2, t_3],
+    }
+}
+
+/// The tiles of these lengths that meet a rectangle, as a rectangle of the grid.
+pub(crate) fn tiles_meeting(lengths: &[u32; 3], r: &Rect) -> Rect
+    requires { All (λ m. 1 ≤ m) lengths.now }
+    ensures { result ≡ tiles_meeting lengths.now r.now }
+{
+    let [m, m_2, m_3] = *lengths;
+    let [f, f_2, f_3] = r.from;
+    let [t, t_2, t_3] = r.to;
+    Rect {
+        from: [f / m, f_2 / m_2, f_3 / m_3],
+        to: [
+            tile_after(f, t, m),
+            tile_after(f_2, t_2, m_2),
+            tile_after(f_3, t_3, m_3),
+        ],
+    }
+}
+
+/// In one dimension, the tile after the last one that has a coordinate from `from` up to `to`.
+fn tile_after(from: u32, to: u32, length: u32) -> u32
+    requires { 1 ≤ length }
+    ensures { result ≡ tile_after from to length }
+{
+    if from < to {
+        to.div_ceil(length)
+    } else {
+        from / length
     }
 }
 

@@ -1,6 +1,6 @@
 -- Filters of lists that are made of others, and functions that agree on a list.
 -- Used by the proofs of `grids`, `cell_fold`, `chunk_store` and `query_model`.
-use Rattle.std.proofs.Common.{◌≡◌, ℕ, ◌≤◌, suc, Bool, true, false, cond, inl, inr, List, [], ◌∷◌, ◌++◌, length, map, refl, sym, ap, ◌∙◌, arith, filter, filter_map, Option, Some, None}
+use Rattle.std.proofs.Common.{◌≡◌, ℕ, ◌≤◌, suc, Bool, true, false, cond, ◌&&◌, inl, inr, List, [], ◌∷◌, ◌++◌, length, map, refl, sym, ap, ◌∙◌, arith, filter, filter_map, Option, Some, None}
 use Rattle.std.specs.List.{flat_map, cons_option}
 use Rattle.std.proofs.lemmas.List.{map-append}
 use Rattle.std.proofs.lemmas.List.Elements.{filter-append, filter_map-append}
@@ -29,6 +29,18 @@ filter_map-map h f (x ∷ xs) = ap (cons_option (h (f x))) (filter_map-map h f x
 pub map-flat_map : {X Y Z : Type 0} (h : Y → Z) (f : X → List Y) (xs : List X) → map h (flat_map f xs) ≡ flat_map (λ x. map h (f x)) xs
 map-flat_map h f [] = refl
 map-flat_map h f (x ∷ xs) = map-append h (f x) (flat_map f xs) ∙ ap (λ l. map h (f x) ++ l) (map-flat_map h f xs)
+
+-- both tests at once
+pub filter-and : {X : Type 0} (p q : X → Bool) (xs : List X) → filter p (filter q xs) ≡ filter (λ x. q x && p x) xs
+filter-and p q [] = refl
+filter-and {X = X} p q (x ∷ xs) = by_tests (p x) (q x) refl (filter-and p q xs)
+  where
+    by_tests : (a b : Bool) → p x ≡ a → filter p (filter q xs) ≡ filter (λ x. q x && p x) xs
+        → filter p (cond b (x ∷ filter q xs) (filter q xs)) ≡ cond (b && a) (x ∷ filter (λ x. q x && p x) xs) (filter (λ x. q x && p x) xs)
+    by_tests true true e rest = (λ i. cond (e i) (x ∷ filter p (filter q xs)) (filter p (filter q xs))) ∙ ap (λ l. x ∷ l) rest
+    by_tests false true e rest = (λ i. cond (e i) (x ∷ filter p (filter q xs)) (filter p (filter q xs))) ∙ rest
+    by_tests true false e rest = rest
+    by_tests false false e rest = rest
 
 -- two tests, either first
 pub filter-filter : {X : Type 0} (p q : X → Bool) (xs : List X) → filter p (filter q xs) ≡ filter q (filter p xs)

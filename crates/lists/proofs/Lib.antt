@@ -7,6 +7,7 @@ pub mod Ranges
 pub mod Rising
 pub mod Rules
 pub mod SameItems
+pub mod Shares
 pub mod Short
 pub mod Sums
 pub mod Weights

@@ -1,5 +1,5 @@
-use Rattle.cells.proofs.Rectangles.{rect_contains-meet}
+use Rattle.cells.proofs.Rectangles.{rect_contains-meet, meet-dimensions}
 use Rattle.cells.proofs.laws.rectangles_meet.Goals as goal
 
 pub returns : goal.returns
-returns c = rect_contains-meet
+returns c = record { cells = rect_contains-meet; dimensions = meet-dimensions }
