@@ -1,5 +1,5 @@
 -- How much a call on an object in memory does, and which calls fail.
--- Used by the sources, sinks and shelf in memory alone.
+-- Used by the sources, sinks and shelf in memory. What reads cover uses `bytes_per_call`.
 use Rattle.std.specs.Prelude.{ℕ, ◌==◌, if◌then◌else◌, min, List, map}
 use Rattle.std.specs.List.{filter}
 

@@ -99,6 +99,8 @@ impl ByteSource for MemSource {
 
     ghost faults = { λ source. source.faults };
 
+    ghost step = { λ source. Some source.step };
+
     fn size(&self) -> u64 {
         self.bytes.len() as u64
     }

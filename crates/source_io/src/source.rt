@@ -1,7 +1,7 @@
 //! Sources of bytes: what every file is read through.
-ghost use Rattle.std.specs.Prelude.{◌≡◌, ℕ, ◌+◌, ◌<◌, ◌≤◌, ◌⊎◌, List, length, Option, IfOk, OnOk, OnErr};
+ghost use Rattle.std.specs.Prelude.{◌≡◌, ℕ, ◌+◌, ◌<◌, ◌≤◌, ◌⊎◌, List, length, Option, Some, None, IfOk, OnOk, OnErr};
 ghost use Rattle.source_io.specs.Told.{Rose, Fills, Holds, SizeIs};
-ghost use Rattle.source_io.specs.Asked.{Asks, AsksOne};
+ghost use Rattle.source_io.specs.Asked.{Asks, AsksOne, AsksWhole, AsksPrefix, Gives};
 ghost use Rattle.source_io.specs.Source.{StoredFile};
 
 use crate::Failed;
@@ -17,6 +17,10 @@ pub trait ByteSource {
     /// How many reads failed.
     ghost faults: { Self → ℕ };
 
+    /// The step: how many bytes a read gives at most, if it is told. A read that did not fail gave a whole step, or all
+    /// that it asked for if that was less. A step of 0 means all.
+    ghost step: { Self → Option ℕ } = { λ _. None };
+
     /// The number of bytes. It never changes.
     fn size(&self) -> u64
         ensures size { result ≡ (file self.now).len }
@@ -28,6 +32,7 @@ pub trait ByteSource {
         requires some { 0 < length into.old }
         requires within { offset + length into.old ≤ (file self.old).len }
         ensures count { IfOk result (λ n. (0 < n) × (n ≤ length into.old)) }
+        ensures gives { IfOk result (λ n. Gives (step self.old) (length into.old) n) }
         ensures bytes { IfOk result (λ n. Fills (file self.old).bytes offset n into.old into.new) }
         ensures unchanged { OnErr result (into.new ≡ into.old) }
         ensures cause { OnErr result (Rose (faults self.old) (faults self.new)) }
@@ -39,7 +44,8 @@ pub trait ByteSource {
         ensures failed { OnErr result (AsksOne (asked self.old) (asked self.new) (offset, length into.old) ⊎ (asked self.new ≡ asked self.old)) }
 
         // Reading changes nothing else.
-        ensures same_file { file self.new ≡ file self.old };
+        ensures same_file { file self.new ≡ file self.old }
+        ensures same_step { step self.new ≡ step self.old };
 }
 
 /// Fills the whole of `into` with the bytes from an offset on, with as many reads as are needed. If `into` is empty,
@@ -51,7 +57,14 @@ pub fn read_whole<S: ByteSource>(src: &mut S, offset: u64, into: &mut [u8]) -> R
     ensures faults { S.faults src.old ≤ S.faults src.new }
     ensures no_fault { OnOk result (S.faults src.new ≡ S.faults src.old) }
     ensures asked { Asks (S.asked src.old) (S.asked src.new) offset (offset + length into.old) }
+
+    // Each read asks for all that is left. So if a read gives all, there is one, of the whole range. After an error, the
+    // reads are a prefix of such reads.
+    ensures covers { OnOk result (AsksWhole (S.step src.old) (S.asked src.old) (S.asked src.new) offset (offset + length into.old)) }
+    ensures one_read { OnOk result (S.step src.old ≡ Some 0 → 0 < length into.old → AsksOne (S.asked src.old) (S.asked src.new) (offset, length into.old)) }
+    ensures covers_prefix { OnErr result (AsksPrefix (S.step src.old) (S.asked src.old) (S.asked src.new) offset (offset + length into.old)) }
     ensures same_file { S.file src.new ≡ S.file src.old }
+    ensures same_step { S.step src.new ≡ S.step src.old }
 {
     let _size = src.size();
     let mut done = 0;

@@ -18,6 +18,8 @@ impl ByteSource for SureSource {
 
     ghost faults = { λ _. 0 };
 
+    ghost step = { λ _. Some 0 };
+
     fn size(&self) -> u64 {
         self.bytes.len() as u64
     }
