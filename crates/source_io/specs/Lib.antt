@@ -6,3 +6,5 @@ pub mod Files
 pub mod Shelf
 pub mod Plan
 pub mod MemSource
+pub mod MemSink
+pub mod MemShelf

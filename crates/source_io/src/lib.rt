@@ -4,7 +4,8 @@
 //! In memory there are sources, sinks and a shelf that tell everything and fail by plan.
 //!
 //! Definitions: `specs/Source` and `specs/Shelf` (what one shows), `specs/Told` (contents), `specs/Asked` (reads),
-//! `specs/Written` (writes), `specs/Files`, `specs/Plan` and `specs/MemSource` (in memory). It stands on `lists`.
+//! `specs/Written` (writes), `specs/Files`, and for the objects in memory `specs/Plan`, `specs/MemSource`,
+//! `specs/MemSink` and `specs/MemShelf`. It stands on `lists`.
 //! `system_files` has the real files and streams. `array_file`, `chunk_store` and `search_run` read and write
 //! through the traits, and the tests use the objects in memory.
 #![tactic(auto)]

@@ -1,5 +1,5 @@
 //! A sink in memory: a created file of a shelf in memory.
-ghost use Rattle.std.specs.Prelude.{◌≡◌, ◌+◌, ◌≤◌, [], Some, IfOk, vec_len, vec_capacity};
+ghost use Rattle.std.specs.Prelude.{◌≡◌, ◌+◌, ◌<◌, ◌≤◌, [], ◌++◌, Some, is_err, IfOk, OnOk, OnErr, length, take, vec_len, vec_capacity};
 
 use crate::plan::bytes_per_call;
 use crate::{Failed, NoMemory, Sink};
@@ -18,6 +18,8 @@ pub struct MemSink {
 }
 
 impl MemSink {
+    ghost use Rattle.source_io.specs.MemSink.{writes_left};
+
     /// A sink that can hold `room` bytes. A write takes at most `step` bytes, where 0 means all, and no more than there
     /// is room for. Writes are numbered from 1, failed ones included. A write fails if its number is in `fails`, or if
     /// no room is left. `NoMemory` if there is no memory for the bytes.
@@ -28,6 +30,7 @@ impl MemSink {
         fails: Vec<u64>,
     ) -> Result<MemSink, NoMemory>
         ensures empty { IfOk result (λ sink. ⟦<MemSink as Sink>⟧.written sink ≡ Some []) }
+        ensures plan { IfOk result (λ sink. writes_left sink ≡ record { fails = fails.items; step = step; room = room; made = 0 }) }
         ensures no_faults { IfOk result (λ sink. ⟦<MemSink as Sink>⟧.faults sink ≡ 0) }
     {
         let Ok(bytes) = Vec::with_capacity(alloc, room) else {
@@ -66,11 +69,30 @@ impl MemSink {
 }
 
 impl Sink for MemSink {
+    ghost use Rattle.source_io.specs.MemSink.{writes_left};
+    ghost use Rattle.source_io.specs.Plan.{after_call, bytes_taken, write_fails};
+    ghost use Rattle.source_io.specs.Told.{Rose};
+    ghost use Rattle.std.specs.Result.{result_unwrap_or};
+
     ghost written = { λ sink. Some sink.bytes.items };
 
     ghost faults = { λ sink. sink.faults };
 
-    fn write(&mut self, piece: &[u8]) -> Result<usize, Failed> {
+    fn write(&mut self, piece: &[u8]) -> Result<usize, Failed>
+        requires { 0 < length piece.now }
+
+        // It fails exactly if no room is left or the plan names it. Else it takes the bytes of a step, if there is room.
+        ensures fails { is_err result ≡ write_fails (writes_left self.old) (length piece.now) }
+        ensures takes { IfOk result (λ n. n ≡ bytes_taken (writes_left self.old) (length piece.now)) }
+        ensures written { IfOk result (λ n. self.new.bytes.items ≡ self.old.bytes.items ++ take n piece.now) }
+        ensures unchanged { OnErr result (self.new.bytes.items ≡ self.old.bytes.items) }
+
+        // Each write has a number, and one that failed is counted.
+        ensures numbered { writes_left self.new ≡ after_call (writes_left self.old) (result_unwrap_or result 0) }
+        ensures cause { OnErr result (Rose self.old.faults self.new.faults) }
+        ensures faults { self.old.faults ≤ self.new.faults }
+        ensures no_fault { OnOk result (self.new.faults ≡ self.old.faults) }
+    {
         self.writes = self.writes.saturating_add(1);
         let n = bytes_per_call(self.step, piece.len()).min(self.room);
         if n == 0 || self.fails.contains(&self.writes) {

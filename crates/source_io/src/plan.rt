@@ -1,7 +1,6 @@
 //! Which calls of a shelf in memory fail, and which of its sources and sinks.
 ghost use Rattle.std.specs.Prelude.{◌≡◌, [], IfOk};
 ghost use Rattle.source_io.specs.Plan as plan;
-ghost use Rattle.source_io.specs.Plan.{writes_of};
 
 use std::alloc::{AllocError, Global};
 
@@ -38,17 +37,21 @@ impl Plan {
             room,
         }
     }
+}
 
-    /// The numbers of the writes that fail on the file with this number of creating.
-    pub(crate) fn writes_on(&self, alloc: Global, creating: u64) -> Result<Vec<u64>, AllocError>
-        ensures { IfOk result (λ writes. writes.items ≡ writes_of creating self.now.writes.items) }
-    {
-        self.writes
-            .iter()
-            .filter(|write| write.0 == creating)
-            .map(|write| write.1)
-            .collect(alloc)
-    }
+/// The numbers that are listed for one call, an opening or a creating. Each pair has a call and a number.
+pub(crate) fn numbers_of(
+    alloc: Global,
+    listed: &[(u64, u64)],
+    call: u64,
+) -> Result<Vec<u64>, AllocError>
+    ensures { IfOk result (λ numbers. numbers.items ≡ plan.numbers_of call listed.entry.now) }
+{
+    listed
+        .iter()
+        .filter(|pair| pair.0 == call)
+        .map(|pair| pair.1)
+        .collect(alloc)
 }
 
 /// How many of the wanted bytes a call takes: at most `step`, and all if `step` is 0.
