@@ -4,3 +4,9 @@ pub mod Leading
 pub mod Levels
 pub mod WordLaws
 pub mod WrittenNumbers
+pub mod Steps
+pub mod LayoutRules
+pub mod StatedLayouts
+pub mod StatedArrays
+pub mod ReadLayouts
+pub mod ReadArrays

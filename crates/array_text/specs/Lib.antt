@@ -2,3 +2,4 @@ pub mod Words
 pub mod Numbers
 pub mod Walk
 pub mod Reads
+pub mod Contents

@@ -1,10 +1,17 @@
-//! What the words of a text are, and what the digits of a number are as a word.
+//! What the words of a text are, what the digits of a number are as a word, and that a text is read as the layout and
+//! the cells that its words state.
 //! No code calls them.
-ghost use Rattle.std.specs.Prelude.{◌≡◌, ℕ, ℤ, ◌<◌, List, [], ◌∷◌, ◌++◌, true};
+ghost use Rattle.std.specs.Prelude.{◌≡◌, ℕ, ℤ, ◌<◌, ◌≤◌, ◌^◌, List, [], ◌∷◌, ◌++◌, length, true, Ok};
 ghost use Rattle.std.specs.Fmt.{decimal, signed_decimal};
 ghost use Rattle.lists.specs.Numbers.{IsWithin};
+ghost use Rattle.cells.specs.declared.cell.Cell.{Cell};
+ghost use Rattle.layouts.specs.declared.numbers.LayoutNumbers.{LayoutNumbers};
+ghost use Rattle.array_text.specs.Contents.{WordsState};
 ghost use Rattle.array_text.specs.Numbers.{layout_number, cell_of, stored};
+ghost use Rattle.array_text.specs.Walk.{stated_array};
 ghost use Rattle.array_text.specs.Words.{is_blank, words, IsWord};
+
+use layouts::laws::rules_make_a_layout;
 
 /// No bytes have no words.
 pub fn nothing_has_no_words()
@@ -35,4 +42,17 @@ pub fn digits_write_the_number()
 /// A cell's number is what its digits write, after `-` if it is below 0.
 pub fn digits_write_the_cell()
     ensures { (z : ℤ) → IsWithin z 2147483647 → cell_of (signed_decimal z) ≡ Some (stored z) }
+{}
+
+/// If a text is read, its words state the layout and the cells that are read.
+pub fn what_is_read_is_stated()
+    ensures { (bytes : List ℕ) (l : LayoutNumbers) (cells : List Cell) → stated_array bytes ≡ Ok (l, cells) → WordsState (words bytes) l cells }
+{
+    rules_make_a_layout();
+}
+
+/// A text of at most 2^30 bytes is read as the layout and the cells that its words state.
+pub fn what_is_stated_is_read()
+    ensures { (bytes : List ℕ) (l : LayoutNumbers) (cells : List Cell) → length bytes ≤ 2 ^ 30 → WordsState (words bytes) l cells
+        → stated_array bytes ≡ Ok (l, cells) }
 {}
