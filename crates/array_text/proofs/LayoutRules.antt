@@ -1,5 +1,5 @@
 -- What the rules of a layout say about the numbers that a text does not write.
--- Used by the proofs of `ReadLayouts` and `StatedLayouts`.
+-- Used by the proofs of `PlainTexts`, `ReadLayouts` and `StatedLayouts`.
 use Rattle.std.proofs.Common.{◌≡◌, ℕ, zero, suc, ◌+◌, ◌-◌, ◌<◌, ◌≤◌, ◌&&◌, ◌==◌, nat_lt, Bool, true, false, cond, List, [], ◌∷◌, ◌++◌, length, get_or, take, drop, replicate, None, All, refl, ap, sym, subst, ◌∙◌, arith}
 use Rattle.std.specs.Prelude.{slice_index}
 use Rattle.std.proofs.lemmas.Bool.{le-ltb, lt-ltb, eqb-true}
@@ -76,7 +76,7 @@ unused_block : (used inside good : Bool) (n : ℕ) → used ≡ false → cond u
 unused_block used inside good n unused e = eqb-true n 0 (sym (ap (λ b. cond b (cond inside good (n == 1)) (n == 0)) unused) ∙ e)
 
 -- in a level that is used
-level_numbers : (l : LayoutNumbers) (level : ℕ) → IsLayout l → level < l.levels → AreNumbers l.rank (block_extents l level)
+pub level_numbers : (l : LayoutNumbers) (level : ℕ) → IsLayout l → level < l.levels → AreNumbers l.rank (block_extents l level)
 level_numbers l level is used =
     let low : level < 4 = omega (arith, is.facts.levels_few) in
     record {

@@ -10,3 +10,6 @@ pub mod StatedLayouts
 pub mod StatedArrays
 pub mod ReadLayouts
 pub mod ReadArrays
+pub mod PlainWords
+pub mod PlainTexts
+pub mod CellBits

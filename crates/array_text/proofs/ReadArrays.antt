@@ -1,5 +1,5 @@
 -- The words of a text that is read state the layout and the cells that are read.
--- Used by the proof of `what_is_read_is_stated`.
+-- Used by the proofs of `what_is_read_is_stated` and `what_is_read_has_a_plain_text`.
 use Rattle.std.proofs.Common.{◌≡◌, ℕ, zero, suc, ◌^◌, nat_lt, Bool, true, false, cond, List, [], ◌∷◌, ◌++◌, length, map, Option, Some, None, Ok, Err, All, refl, ap, sym, subst, ◌∙◌}
 use Rattle.std.specs.Prelude.{⊤}
 use Rattle.std.proofs.lemmas.List.{append_assoc, append-nil}

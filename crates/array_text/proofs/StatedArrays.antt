@@ -1,5 +1,5 @@
 -- Words that state a layout and cells are read as these.
--- Used by the proof of `what_is_stated_is_read`.
+-- Used by the proofs of `PlainTexts` and `what_is_stated_is_read`.
 use Rattle.std.proofs.Common.{◌≡◌, ℕ, ◌^◌, ◌≤◌, List, [], ◌∷◌, ◌++◌, length, map, cond, Ok, Err, refl, ap, sym, subst, ◌∙◌}
 use Rattle.std.proofs.lemmas.Bool.{le-ltb}
 use Rattle.std.proofs.lemmas.List.{append_assoc, append-nil}

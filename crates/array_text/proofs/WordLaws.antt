@@ -1,5 +1,5 @@
 -- The words of bytes that begin with a word.
--- Used by the proofs of `a_word_goes_up_to_a_blank` and `a_word_goes_up_to_the_end`.
+-- Used by the proofs of `PlainTexts`, `a_word_goes_up_to_a_blank` and `a_word_goes_up_to_the_end`.
 use Rattle.std.proofs.Common.{◌≡◌, ℕ, true, false, cond, List, [], ◌∷◌, ◌++◌, All, refl, ap, ◌∙◌, sym, append-nil}
 use Rattle.std.proofs.lemmas.List.Elements.{All-head, All-tail}
 use Rattle.array_text.specs.Words.{is_blank, is_some_word, words, first_word, after_word, IsWord}

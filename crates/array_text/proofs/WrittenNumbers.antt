@@ -1,5 +1,5 @@
 -- The digits of a number write that number.
--- Used by the proofs of `digits_write_the_cell` and `digits_write_the_number`.
+-- Used by the proofs of `PlainWords`, `digits_write_the_cell` and `digits_write_the_number`.
 use Rattle.std.proofs.Common.{◌≡◌, ◌≢◌, ℕ, suc, ◌+◌, ◌-◌, ◌*◌, ◌/◌, ◌%◌, ◌<◌, ◌≤◌, ◌^◌, ◌&&◌, nat_le, cond, List, [], ◌∷◌, ◌++◌, length, Option, Some, None, refl, ap, ◌∙◌, arith, ℤ, pos, negsuc, neg_ℤ}
 use Rattle.std.specs.Fmt.{decimal, signed_decimal}
 use Rattle.std.specs.Option.{option_and_then, option_map}
@@ -36,7 +36,7 @@ digits_from-last m (b ∷ ds) v e below is =
     then_digit (λ d. digits_from (10 * m + d) ds) (λ d. digits_from (10 * m + d) (ds ++ (48 + e) ∷ [])) (digit_of b) v (10 * v + e)
     (λ d. digits_from-last (10 * m + d) ds v e below) is
 
-digits_from-decimal : (n : ℕ) → n < 2 ^ 64 → digits_from 0 (decimal n) ≡ Some n
+pub digits_from-decimal : (n : ℕ) → n < 2 ^ 64 → digits_from 0 (decimal n) ≡ Some n
 digits_from-decimal = decimal_by_steps (λ n ds. digits_from 0 ds ≡ Some n)
     (λ n below. digits_from-one 0 n below ∙ ap Some (omega arith))
     (λ n ds some is. digits_from-last 0 ds (n / 10) (n % 10) (omega arith) is ∙ ap Some (omega arith))

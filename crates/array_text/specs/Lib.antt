@@ -3,3 +3,4 @@ pub mod Numbers
 pub mod Walk
 pub mod Reads
 pub mod Contents
+pub mod PlainText
