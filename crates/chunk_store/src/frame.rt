@@ -1,7 +1,8 @@
 //! One chunk in memory.
 //! Used in this crate by `array`, `loading` and `summary`.
-ghost use Rattle.std.specs.Prelude.{◌≡◌, None, length, IfOk};
+ghost use Rattle.std.specs.Prelude.{◌≡◌, None, length, IfOk, vec_len};
 ghost use Rattle.layouts.specs.Chunks.{chunk_cells};
+ghost use Rattle.chunk_store.specs.declared.frame.TheConstants.{PIECE_BYTES};
 
 use cells::Cell;
 use layouts::Layout;
@@ -9,12 +10,21 @@ use source_io::NoMemory;
 use std::alloc::Global;
 use std::marker::Model;
 
+/// How many cells a load reads at a time.
+pub(crate) const PIECE_CELLS: usize = 1024;
+
+/// The number of bytes of these cells.
+pub(crate) const PIECE_BYTES: usize = 4096;
+
 /// The cells of one chunk, and the number of the chunk, if the frame holds one. Contracts see these two. A frame always
 /// has as many cells as a chunk of its layout, padding included.
 #[derive(Drop)]
 pub struct Frame {
     pub(crate) chunk: Option<u32>,
     pub(crate) cells: Vec<Cell>,
+    /// Room for the bytes that a load reads at a time.
+    pub(crate) bytes: Vec<u8>,
+    ghost room: { vec_len bytes ≡ PIECE_BYTES },
 }
 
 impl Model for Frame {
@@ -34,7 +44,14 @@ impl Frame {
         let Ok(cells) = vec![in alloc; Cell(0); layout.chunk_cells() as usize] else {
             return Err(NoMemory);
         };
-        Ok(Frame { chunk: None, cells })
+        let Ok(bytes) = vec![in alloc; 0; PIECE_BYTES] else {
+            return Err(NoMemory);
+        };
+        Ok(Frame {
+            chunk: None,
+            cells,
+            bytes,
+        })
     }
 
     /// The number of the chunk that it holds, or `None` if it holds none.

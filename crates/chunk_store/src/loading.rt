@@ -9,17 +9,12 @@ ghost use Rattle.chunk_store.specs.Loaded.{cells_from, HoldsFrom, HoldsChunk};
 ghost use Rattle.chunk_store.specs.Pieces.{AsksPieces, chunk_end};
 
 use crate::Frame;
+use crate::frame::{PIECE_BYTES, PIECE_CELLS};
 use array_file::chunk_offset;
 use byteorder::{ByteOrder, LittleEndian};
 use cells::Cell;
 use layouts::Layout;
 use source_io::{ByteSource, Failed, read_whole};
-
-/// How many cells a load reads at a time.
-const PIECE_CELLS: usize = 1024;
-
-/// The number of bytes of these cells.
-const PIECE_BYTES: usize = 4096;
 
 /// The cell in the four bytes from offset `at` on.
 fn cell(bytes: &[u8], at: usize) -> Cell
@@ -40,14 +35,15 @@ fn put_cells(cells: &mut [Cell], bytes: &[u8])
     }
 }
 
-/// Reads so many cells as there are from offset `at` on, at most a piece.
+/// Reads so many cells as there are from offset `at` on, at most a piece. `bytes` has room for the bytes of a piece.
 fn read_piece<S: ByteSource>(
     src: &mut S,
     at: u64,
     cells: &mut [Cell],
-    bytes: &mut [u8; PIECE_BYTES],
+    bytes: &mut [u8],
 ) -> Result<(), Failed>
     requires few { length cells.old ≤ PIECE_CELLS }
+    requires room { length bytes.old ≡ PIECE_BYTES }
     requires within { at + 4 * length cells.old ≤ (S.file src.old).len }
     ensures cells { OnOk result (HoldsFrom (S.file src.old).bytes at cells.new) }
     ensures cause { OnErr result (Rose (S.faults src.old) (S.faults src.new)) }
@@ -62,9 +58,15 @@ fn read_piece<S: ByteSource>(
     Ok(())
 }
 
-/// Reads so many cells as there are from offset `at` on, piece by piece.
-fn read_pieces<S: ByteSource>(src: &mut S, at: u64, cells: &mut [Cell]) -> Result<(), Failed>
-    requires { at + 4 * length cells.old ≤ (S.file src.old).len }
+/// Reads so many cells as there are from offset `at` on, piece by piece. `bytes` has room for the bytes of a piece.
+fn read_pieces<S: ByteSource>(
+    src: &mut S,
+    at: u64,
+    cells: &mut [Cell],
+    bytes: &mut [u8],
+) -> Result<(), Failed>
+    requires within { at + 4 * length cells.old ≤ (S.file src.old).len }
+    requires room { length bytes.old ≡ PIECE_BYTES }
     ensures cells { OnOk result (HoldsFrom (S.file src.old).bytes at cells.new) }
     ensures cause { OnErr result (Rose (S.faults src.old) (S.faults src.new)) }
     ensures faults { S.faults src.old ≤ S.faults src.new }
@@ -73,12 +75,11 @@ fn read_pieces<S: ByteSource>(src: &mut S, at: u64, cells: &mut [Cell]) -> Resul
     ensures same_file { S.file src.new ≡ S.file src.old }
 {
     let _size = src.size();
-    let mut bytes = [0; PIECE_BYTES];
     let mut done = 0;
     while done < cells.len() {
         let n = PIECE_CELLS.min(cells.len() - done);
         let piece = &mut cells[done..done + n];
-        read_piece(src, at + 4 * done as u64, piece, &mut bytes)?;
+        read_piece(src, at + 4 * done as u64, piece, bytes)?;
         done += n;
     }
     Ok(())
@@ -106,7 +107,10 @@ pub fn load<S: ByteSource>(
     ensures same_file { S.file src.new ≡ S.file src.old }
 {
     into.chunk = None;
-    read_pieces(src, chunk_offset(layout, n), into.cells.as_mut_slice())?;
+    let at = chunk_offset(layout, n);
+    let cells = into.cells.as_mut_slice();
+    let bytes = into.bytes.as_mut_slice();
+    read_pieces(src, at, cells, bytes)?;
     into.chunk = Some(n);
     Ok(())
 }

@@ -10,7 +10,7 @@ returns-in_err-read_whole-clause-asked g c =
 
 pub returns-clause-cells : goal.returns-clause-cells
 returns-clause-cells g c =
-    holds_piece _ _ (length c.args.cells.now) _ c.read_whole.new.into c.put_cells.new.cells (omega (arith, length-take {A = ℕ}, c.told-bytes, c.fits-bytes, c.requires.few)) c.in_ok-read_whole.ensures.bytes c.put_cells.ensures
+    holds_piece _ _ (length c.args.cells.now) _ c.read_whole.new.into c.put_cells.new.cells (omega (arith, length-take {A = ℕ}, c.requires.room, c.requires.few)) c.in_ok-read_whole.ensures.bytes c.put_cells.ensures
 
 pub returns-clause-asked : goal.returns-clause-asked
 returns-clause-asked g c =
