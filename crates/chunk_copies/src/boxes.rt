@@ -50,6 +50,19 @@ pub(crate) fn copy_box(box_of: &[Stretch; 3], source: &[Cell], target: &mut [Cel
     }
 }
 
+/// Copies a box of three dimensions to the first `end` cells of a list. The cells after them stay.
+pub(crate) fn copy_to_first(box_of: &[Stretch; 3], source: &[Cell], end: usize, target: &mut [Cell])
+    requires within { All IsWithinBoth box_of.now }
+    requires source { source_size box_of.now ≤ length source.now }
+    requires target { target_size box_of.now ≡ end }
+    requires end { end ≤ length target.old }
+    ensures first { CopiesBox box_of.now source.now (take end target.old) (take end target.new) }
+    ensures rest { drop end target.new ≡ drop end target.old }
+    ensures long { length target.new ≡ length target.old }
+{
+    copy_box(box_of, source, &mut target[..end]);
+}
+
 /// Copies one box of two dimensions for each step of a stretch.
 fn copy_planes(planes: &Stretch, plane: &[Stretch; 2], source: &[Cell], target: &mut [Cell])
     requires planes { IsWithinBoth planes.now }

@@ -1,24 +1,42 @@
 //! Chunks that are put among the cells of an array. Used when all cells are read.
-ghost use Rattle.std.specs.Prelude.{◌≡◌, ◌≤◌, ◌<◌, ◌-◌, length};
+ghost use Rattle.std.specs.Prelude.{◌≡◌, ◌+◌, ◌*◌, ◌≤◌, ◌<◌, ◌-◌, ◌++◌, length, replicate, pos, vec_capacity};
 ghost use Rattle.lists.specs.Numbers.{product};
 ghost use Rattle.chunk_copies.specs.Placing.{PlacesChunk};
 ghost use Rattle.layouts.specs.Chunks as chunks;
 
-use crate::boxes::{Stretch, copy_box};
+use crate::boxes::{Stretch, copy_to_first};
 use cells::Cell;
 use layouts::{Cut, Layout};
 
 /// Puts the cells of chunk `n` in their places among the cells of the array. The cells of the chunk are row-major, with
-/// padding. Padding is not copied. The cells of the array are row-major, without padding.
-pub fn place_chunk(layout: &Layout, n: u32, chunk: &[Cell], cells: &mut [Cell])
+/// padding. Padding is not copied. `cells` has the first cells of the array, row-major, without padding. If they end
+/// before the last cell of the chunk, zeros are appended first. There has to be room for all cells of the array.
+pub fn place_chunk(layout: &Layout, n: u32, chunk: &[Cell], cells: &mut Vec<Cell>)
     requires chunk { n < chunks.chunk_count layout.now }
     requires long { length chunk.now ≡ chunks.chunk_cells layout.now }
-    requires all { length cells.old ≡ product layout.now.extents }
-    ensures placed { PlacesChunk layout.now n chunk.now cells.old cells.new }
-    ensures long { length cells.new ≡ length cells.old }
+    requires few { length cells.old.items ≤ product layout.now.extents }
+    requires room { product layout.now.extents ≤ vec_capacity cells.old }
+    ensures placed { PlacesChunk layout.now n chunk.now cells.old.items cells.new.items }
+    ensures room { vec_capacity cells.old ≤ vec_capacity cells.new }
 {
+    let _cells = layout.cells();
     let [a, b, c] = &layout.cuts(n);
-    copy_box(&[to_array(a), to_array(b), to_array(c)], chunk, cells);
+    let end = a.to as usize * (b.extent as usize * c.extent as usize);
+    reach(cells, end);
+    let first = Cut { extent: a.to, ..*a };
+    let ways = [to_array(&first), to_array(b), to_array(c)];
+    copy_to_first(&ways, chunk, end, cells.as_mut_slice());
+}
+
+/// Appends zeros until there are `end` cells, if there are fewer. There has to be room for them.
+fn reach(cells: &mut Vec<Cell>, end: usize)
+    requires { end ≤ vec_capacity cells.old }
+    ensures cells { cells.new.items ≡ cells.old.items ++ replicate (end - length cells.old.items) (record { 0 = pos 0 }) }
+    ensures room { vec_capacity cells.old ≤ vec_capacity cells.new }
+{
+    if cells.len() < end {
+        cells.resize(end, Cell(0)).unwrap();
+    }
 }
 
 /// From the chunk to the array, in one dimension.

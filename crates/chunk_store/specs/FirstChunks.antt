@@ -1,6 +1,6 @@
 -- The cells of chunks in their places in the array, and the numbers among them. Padding has no place.
 -- Used in this crate alone.
-use Rattle.std.specs.Prelude.{◌≡◌, ℕ, ◌<◌, ◌==◌, nat_lt, List, ℤ, length, map, filter, filter_map, slice_index_or}
+use Rattle.std.specs.Prelude.{◌≡◌, ℕ, ◌<◌, ◌≤◌, ◌==◌, nat_lt, List, ℤ, length, map, filter, filter_map, slice_index_or}
 use Rattle.std.specs.List.{range_with_len}
 use Rattle.lists.specs.Numbers.{product}
 use Rattle.grids.specs.Coordinates.{coordinates_of}
@@ -14,9 +14,14 @@ use Rattle.layouts.specs.declared.numbers.LayoutNumbers.{LayoutNumbers}
 
 -- ---- cells
 
+-- the list has the places of some first cells of the array, among them those of the first m chunks
+pub record ReachesFirstChunks (l : LayoutNumbers) (m : ℕ) (cells : List Cell) : Type 0 where
+  pub few : length cells ≤ product l.extents
+  pub there : (k : ℕ) → k < product l.extents → cell_chunk l k < m → k < length cells
+
 -- the cells of the first m chunks are in their places. f gives the cell of a chunk at an index of the chunk
 pub record HasFirstChunks (l : LayoutNumbers) (f : ℕ → ℕ → Cell) (m : ℕ) (cells : List Cell) : Type 0 where
-  pub long : length cells ≡ product l.extents
+  pub reaches : ReachesFirstChunks l m cells
   pub placed : (k : ℕ) (d : Cell) → k < product l.extents → cell_chunk l k < m → slice_index_or cells k d ≡ f (cell_chunk l k) (cell_index l k)
 
 -- the cells of an array. f gives the cell of a chunk at an index of the chunk

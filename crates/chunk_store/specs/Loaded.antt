@@ -4,9 +4,8 @@ use Rattle.std.specs.Prelude.{◌≡◌, ℕ, ◌+◌, ◌*◌, List, ℤ, refl,
 use Rattle.std.specs.List.{range_with_len}
 use Rattle.std.specs.Coded.{Coded, code_by, coded_ℤ, coded_list, Coded-set, Unit-prop}
 use Rattle.layouts.specs.declared.numbers.LayoutNumbers.{LayoutNumbers}
-use Rattle.lists.specs.Numbers.{product}
 use Rattle.layouts.specs.Chunks.{chunk_cells}
-use Rattle.chunk_store.specs.FirstChunks.{HasFirstChunks}
+use Rattle.chunk_store.specs.FirstChunks.{ReachesFirstChunks, HasFirstChunks}
 use Rattle.cells.specs.declared.cell.Cell.{Cell}
 use Rattle.array_file.specs.Stored.{cell_at, chunk_start}
 
@@ -32,9 +31,9 @@ HoldsChunk (Some bytes) l n cells = cells ≡ chunk_of_file l bytes n
 abbrev pub cell_of_chunk : LayoutNumbers → List ℕ → ℕ → ℕ → Cell
 cell_of_chunk l bytes n p = cell_at bytes (chunk_start l n + 4 * p)
 
--- a list has as many cells as the array, and the cells of the first m chunks are the file's, if the bytes are told
+-- a list has some first cells of the array, among them those of the first m chunks. These are the file's, if the bytes are told
 abbrev pub HoldsFirstChunks : Option (List ℕ) → LayoutNumbers → ℕ → List Cell → Type 0
-HoldsFirstChunks None l m cells = length cells ≡ product l.extents
+HoldsFirstChunks None l m cells = ReachesFirstChunks l m cells
 HoldsFirstChunks (Some bytes) l m cells = HasFirstChunks l (cell_of_chunk l bytes) m cells
 
 -- cells as numbers

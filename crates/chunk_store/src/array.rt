@@ -1,6 +1,6 @@
 //! All cells of an array file.
 //! Used in this crate by `summary`, and by `search_run`.
-ghost use Rattle.std.specs.Prelude.{◌≡◌, ◌+◌, ◌<◌, ◌≤◌, ◌⊎◌, length, IfOk, OnOk, OnErr, IsErrOf};
+ghost use Rattle.std.specs.Prelude.{◌≡◌, ◌+◌, ◌<◌, ◌≤◌, ◌⊎◌, length, vec_capacity, IfOk, OnOk, OnErr, IsErrOf};
 ghost use Rattle.source_io.specs.Told.{Rose};
 ghost use Rattle.lists.specs.Numbers.{product};
 ghost use Rattle.layouts.specs.Chunks.{chunk_cells, chunk_count};
@@ -28,20 +28,22 @@ pub enum CellsFault {
 }
 
 /// Loads chunk `n` into the frame and puts its cells in their places, if the cells of the chunks before it are in
-/// theirs.
+/// theirs. `cells` has room for all cells.
 fn add_chunk<S: ByteSource>(
     layout: &Layout,
     n: u32,
     src: &mut S,
     frame: &mut Frame,
-    cells: &mut [Cell],
+    cells: &mut Vec<Cell>,
 ) -> Result<(), Failed>
     requires rules { IsLayout layout.now }
     requires chunk { n < chunk_count layout.now }
     requires whole { file_size layout.now ≤ (S.file src.old).len }
     requires frame { length frame.old.cells ≡ chunk_cells layout.now }
-    requires cells { HoldsFirstChunks (S.file src.old).bytes layout.now n cells.old }
-    ensures cells { OnOk result (HoldsFirstChunks (S.file src.old).bytes layout.now (n + 1) cells.new) }
+    requires cells { HoldsFirstChunks (S.file src.old).bytes layout.now n cells.old.items }
+    requires room { product layout.now.extents ≤ vec_capacity cells.old }
+    ensures cells { OnOk result (HoldsFirstChunks (S.file src.old).bytes layout.now (n + 1) cells.new.items) }
+    ensures room { product layout.now.extents ≤ vec_capacity cells.new }
     ensures frame { length frame.new.cells ≡ chunk_cells layout.now }
     ensures cause { OnErr result (Rose (S.faults src.old) (S.faults src.new)) }
     ensures faults { S.faults src.old ≤ S.faults src.new }
@@ -54,17 +56,19 @@ fn add_chunk<S: ByteSource>(
     Ok(())
 }
 
-/// Loads each chunk once, in order, and puts its cells in their places.
+/// Loads each chunk once, in order, and puts its cells in their places. `cells` has room for all of them.
 fn add_chunks<S: ByteSource>(
     layout: &Layout,
     src: &mut S,
     frame: &mut Frame,
-    cells: &mut [Cell],
+    cells: &mut Vec<Cell>,
 ) -> Result<(), Failed>
     requires whole { file_size layout.now ≤ (S.file src.old).len }
     requires frame { length frame.old.cells ≡ chunk_cells layout.now }
-    requires cells { length cells.old ≡ product layout.now.extents }
-    ensures cells { OnOk result (HoldsCells (S.file src.old).bytes layout.now cells.new) }
+    requires cells { length cells.old.items ≤ product layout.now.extents }
+    requires room { product layout.now.extents ≤ vec_capacity cells.old }
+    ensures cells { OnOk result (HoldsCells (S.file src.old).bytes layout.now cells.new.items) }
+    ensures count { OnOk result (length cells.new.items ≡ product layout.now.extents) }
     ensures cause { OnErr result (Rose (S.faults src.old) (S.faults src.new)) }
     ensures faults { S.faults src.old ≤ S.faults src.new }
     ensures no_fault { OnOk result (S.faults src.new ≡ S.faults src.old) }
@@ -99,10 +103,10 @@ pub fn read_cells<S: ByteSource>(
     let Ok(mut frame) = Frame::new(alloc, layout) else {
         return Err(CellsFault::NoMemory);
     };
-    let Ok(mut cells) = vec![in alloc; Cell(0); layout.cells() as usize] else {
+    let Ok(mut cells) = Vec::with_capacity(alloc, layout.cells() as usize) else {
         return Err(CellsFault::NoMemory);
     };
-    match add_chunks(layout, src, &mut frame, cells.as_mut_slice()) {
+    match add_chunks(layout, src, &mut frame, &mut cells) {
         Ok(()) => Ok(cells),
         Err(_) => Err(CellsFault::Read),
     }
