@@ -1,5 +1,5 @@
 -- Filters of lists that are made of others, and functions that agree on a list.
--- Used by the proofs of `grids`, `cell_fold`, `chunk_store` and `query_model`.
+-- Used by the proofs of `grids`, `cells`, `layouts`, `cell_fold`, `chunk_store` and `query_model`.
 use Rattle.std.proofs.Common.{◌≡◌, ℕ, ◌≤◌, suc, Bool, true, false, cond, ◌&&◌, inl, inr, List, [], ◌∷◌, ◌++◌, length, map, refl, sym, ap, ◌∙◌, arith, filter, filter_map, Option, Some, None}
 use Rattle.std.specs.List.{flat_map, cons_option}
 use Rattle.std.proofs.lemmas.List.{map-append}

@@ -1,5 +1,5 @@
 -- What is in a list, by recursion.
--- Used by the proofs of `grids`, `cell_fold`, `domains`, `query_model` and `chunk_store`.
+-- Used by the proofs of `grids`, `layouts`, `cell_fold`, `domains`, `query_model` and `chunk_store`.
 use Rattle.std.proofs.Common.{◌≡◌, ℕ, zero, suc, ◌<◌, Bool, true, false, cond, ◌⊎◌, inl, inr, List, [], ◌∷◌, ◌++◌, length, get_or, map, refl, ap, subst, ◌∙◌, arith, filter, Contains}
 use Rattle.std.proofs.lemmas.List.Elements.{Contains-append_right}
 

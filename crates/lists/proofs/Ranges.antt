@@ -1,5 +1,5 @@
 -- Ranges of numbers, and the items at them.
--- Used by the proofs of `grids`, `cell_fold`, `domains`, `array_file`, `chunk_store` and `search_run`.
+-- Used by the proofs of `grids`, `cells`, `layouts`, `cell_fold`, `domains`, `array_file`, `chunk_store` and `report`.
 use Rattle.std.proofs.Common.{◌≡◌, ℕ, zero, suc, ◌+◌, ◌-◌, ◌<◌, ◌≤◌, Bool, true, false, inl, inr, List, [], ◌∷◌, ◌++◌, length, get_or, take, drop, refl, sym, ap, ◌∙◌, arith, filter, filter_map, Option, Some, None, option_and_then, slice_get, append-nil, ◌*◌, map}
 use Rattle.std.specs.List.{range_with_len, cons_option, flat_map}
 use Rattle.std.proofs.lemmas.Option.{slice_get-get_or}

@@ -1,5 +1,5 @@
 -- Which rule of a list is the first that is broken, and what it means that none is.
--- Used by the proofs of `layouts` and `array_file`.
+-- Used by the proofs of `layouts`, `array_text` and `array_file`.
 use Rattle.std.proofs.Common.{◌≡◌, ℕ, zero, suc, map, ◌+◌, ◌<◌, ◌≤◌, Bool, true, false, List, [], ◌∷◌, ◌++◌, Option, Some, None, Result, Ok, Err, option_map, if◌then◌else◌, refl, sym, ap, ◌∙◌, subst, arith}
 use Rattle.std.specs.List.{flat_map, range_with_len}
 use Rattle.std.proofs.lemmas.List.Concat.{flat_map-cons}

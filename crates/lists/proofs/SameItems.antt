@@ -1,5 +1,5 @@
 -- The same items up to order: an equivalence, what keeps it, and what follows from it.
--- Used by the proofs of `domains` and `query_model`, and by Orders.
+-- Used by the proofs of `cells`, `layouts`, `domains` and `query_model`, and by Orders and Shares.
 use Rattle.std.proofs.Common.{◌≡◌, ℕ, ◌+◌, ◌<◌, Bool, true, false, cond, inl, inr, List, [], ◌∷◌, ◌++◌, length, map, filter, filter_map, flat_map, Option, IsPermutation, refl, sym, ap, ap₂, subst, ◌∙◌, arith}
 use Rattle.std.specs.Bool.{Decides}
 use Rattle.std.specs.List.{sum_by}

@@ -1,5 +1,5 @@
 -- Lists of two and of three items, item by item.
--- Used by the proofs of `cell_fold`, `chunk_copies` and `chunk_store`.
+-- Used by the proofs of `cell_fold`, `chunk_copies`, `array_text` and `chunk_store`.
 use Rattle.std.proofs.Common.{◌≡◌, ℕ, ◌*◌, List, [], ◌∷◌, length, get_or, refl, sym, ap, ◌∙◌, arith}
 use Rattle.lists.specs.Numbers.{product}
 

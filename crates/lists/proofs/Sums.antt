@@ -1,5 +1,5 @@
 -- Signed sums of lists, one item after the other.
--- Used by the proofs of `cell_fold` and `query_model`.
+-- Used by the proofs of `cell_fold`, `query_model` and `array_text`.
 use Rattle.std.proofs.Common.{◌≡◌, ℕ, ◌+◌, ◌^◌, ◌≤◌, ◌<◌, List, [], ◌∷◌, take, length, get_or, map, ℤ, pos, negsuc, ◌+ℤ◌, ◌≤ℤ◌, unsigned_abs, ap, ◌∙◌, arith, SFits, w32}
 use Rattle.std.proofs.lemmas.Int.{ints}
 use Rattle.std.proofs.lemmas.List.Sums.{fold-append}
